@@ -1,0 +1,11 @@
+pub mod Lists
+pub mod Refusals
+pub mod Bits
+pub mod Layout
+pub mod Template
+pub mod Unpacking
+pub mod Differences
+pub mod RunLength
+pub mod Grouping
+pub mod Packing
+pub mod Cases

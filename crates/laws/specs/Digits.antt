@@ -1,0 +1,36 @@
+-- The count of binary digits. Assumes nothing.
+use mathlib.Core.Path.{_≡_, refl, ap, _∙_}
+use Prim.Native.Nat.{ℕ, zero, suc, _+_, _/_, _^_, _≤_, _<_}
+use native.Mathlib.Nat.{add-zero, add-suc, pow-suc}
+use native.Mathlib.Omega.{arith}
+use lib.Count.{leadingZeros}
+use Rattle.format.specs.Grouping.{digitsIn, bits}
+
+half-below : (n x : ℕ) → x < 2 ^ suc n → x / 2 < 2 ^ n
+half-below n x h = let e = pow-suc 2 n in omega arith
+
+-- any bound on the halvings that is large enough gives the same count
+pub enough : (n m x : ℕ) → x < 2 ^ n → x < 2 ^ m → digitsIn n x ≡ digitsIn m x
+unfolding digitsIn
+enough zero zero x hn hm = refl
+enough zero (suc m) zero hn hm = refl
+enough zero (suc m) (suc x) hn hm = absurd (omega arith)
+enough (suc n) zero zero hn hm = refl
+enough (suc n) zero (suc x) hn hm = absurd (omega arith)
+enough (suc n) (suc m) zero hn hm = refl
+enough (suc n) (suc m) (suc x) hn hm = ap suc (enough n m (suc x / 2) (half-below n (suc x) hn) (half-below m (suc x) hm))
+
+pub below-power : (x : ℕ) → x < 2 ^ x
+below-power zero = omega arith
+below-power (suc x) = let e = pow-suc 2 x in omega (arith, below-power x)
+
+pub bits-in : (n x : ℕ) → x < 2 ^ n → bits x ≡ digitsIn n x
+unfolding bits
+bits-in n x h = enough x n x (below-power x) h
+
+-- of n binary places those that are no digits are leading zeros
+pub leading-digits : (n x : ℕ) → leadingZeros n x + digitsIn n x ≡ n
+unfolding leadingZeros digitsIn
+leading-digits zero x = refl
+leading-digits (suc n) zero = add-zero (suc n)
+leading-digits (suc n) (suc x) = add-suc (leadingZeros n (suc x / 2)) (digitsIn n (suc x / 2)) ∙ ap suc (leading-digits n (suc x / 2))

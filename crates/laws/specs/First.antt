@@ -1,0 +1,95 @@
+-- Which refusal is the first, from what the code knows at a return. Assumes nothing.
+use Prim.Native.Nat.{ℕ, zero, suc}
+use mathlib.Core.Path.{_≡_, refl, sym, ap, _∙_}
+use mathlib.Core.Bool.{true, false, not}
+use mathlib.Core.List.{List, [], _∷_, _++_}
+use lib.Dec.{eqb}
+use lib.ListN.{getD, take, drop}
+use borrow.Author.Tests.{le-ltb, eq-eqb, ne-eqb, ltb-true, ltb-false, eqb-true, eqb-false, not-true, not-false}
+use Rattle.format.specs.Refusals.{Row, _gives_, first, refusalNumber}
+use Rattle.format.specs.declared.Refusal.{Refusal}
+use Rattle.format.specs.declared.Refusal.the-variants.{Splitting, Management, Order, Descriptors, Width, GroupCount, Short, GroupSize, Points, Room, Repeat, Beyond, Numbers}
+
+-- ---- `omega (arith, tests)` reads what a test comes to from the order of its numbers, and the other way round
+
+pub not-equal-fails : (a b : ℕ) → a ≡ b → not (eqb a b) ≡ false
+not-equal-fails a b h = ap not (eq-eqb a b h)
+
+pub not-equal-true : (a b : ℕ) → not (eqb a b) ≡ true → a ≡ b → ⊥
+not-equal-true a b h = eqb-false a b (not-true (eqb a b) h)
+
+pub not-equal-false : (a b : ℕ) → not (eqb a b) ≡ false → a ≡ b
+not-equal-false a b h = eqb-true a b (not-false (eqb a b) h)
+
+pub ruleset tests = (le-ltb, ne-eqb, not-equal-fails, ltb-true, ltb-false, eqb-true, eqb-false, not-equal-true, not-equal-false)
+
+-- ---- a refusal is known by its number
+
+abbrev refusalOf : ℕ → Refusal
+refusalOf n = getD (Numbers ∷ Splitting ∷ Management ∷ Order ∷ Descriptors ∷ Width ∷ GroupCount ∷ Short ∷ GroupSize ∷ Points ∷ Room ∷ Repeat ∷ Beyond ∷ []) n Numbers
+
+back : (r : Refusal) → refusalOf (refusalNumber r) ≡ r
+back Splitting = refl
+back Management = refl
+back Order = refl
+back Descriptors = refl
+back Width = refl
+back GroupCount = refl
+back Short = refl
+back GroupSize = refl
+back Points = refl
+back Room = refl
+back Repeat = refl
+back Beyond = refl
+back Numbers = refl
+
+-- two refusals of one number are one
+pub same-number : {q r : Refusal} → refusalNumber q ≡ refusalNumber r → q ≡ r
+same-number {q} {r} e = sym (back q) ∙ ap refusalOf e ∙ back r
+
+-- ---- the first test that holds
+
+-- gives number n
+abbrev pub Gives : ℕ → List Row → Type 0
+Gives n [] = ⊥
+Gives n (t gives r ∷ rows) = (t ≡ true → n ≡ refusalNumber r) × (t ≡ false → Gives n rows)
+
+-- there is none
+abbrev pub Clear : List Row → Type 0
+Clear [] = Unit
+Clear (t gives r ∷ rows) = (t ≡ false) × Clear rows
+
+module _ {A : Type 0} (refused : Refusal → A) where
+  -- a return that refuses
+  pub decides : (q : Refusal) (rows : List Row) (a : A) → Gives (refusalNumber q) rows → refused q ≡ first refused rows a
+  unfolding first
+  decides q [] a h = absurd h
+  decides q (true gives r ∷ rows) a h = ap refused (same-number (h .0 refl))
+  decides q (false gives r ∷ rows) a h = decides q rows a (h .1 refl)
+
+  -- a return that refuses nothing
+  pub clears : (rows : List Row) (a : A) → Clear rows → a ≡ first refused rows a
+  unfolding first
+  clears [] a h = refl
+  clears (t gives r ∷ rows) a h = rw (h .0) (clears rows a (h .1))
+
+  -- one that leaves all but the first n rows to a function that decides those
+  pub leaves : (n : ℕ) (rows : List Row) (a : A) → Clear (take n rows) → first refused (drop n rows) a ≡ first refused rows a
+  unfolding first
+  leaves zero rows a h = refl
+  leaves (suc n) [] a h = refl
+  leaves (suc n) (t gives r ∷ rows) a h = rw (h .0) (leaves n rows a (h .1))
+
+  -- the first of a joined list: of its first part, or else of its second
+  pub first-joined : (rows more : List Row) (a : A) → first refused (rows ++ more) a ≡ first refused rows (first refused more a)
+  unfolding first
+  first-joined [] more a = refl
+  first-joined (true gives r ∷ rows) more a = refl
+  first-joined (false gives r ∷ rows) more a = first-joined rows more a
+
+  -- an answer that is no refusal was refused by no row
+  pub passed : (rows : List Row) (a : A) {x : A} → x ≡ first refused rows a → ((r : Refusal) → x ≡ refused r → ⊥) → Clear rows × (x ≡ a)
+  unfolding first
+  passed [] a e h = (tt, e)
+  passed (true gives r ∷ rows) a e h = absurd (h r e)
+  passed (false gives r ∷ rows) a e h = let p = passed rows a e h in ((refl, p .0), p .1)

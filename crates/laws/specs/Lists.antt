@@ -1,0 +1,113 @@
+-- The laws of the words for lists. Assumes nothing.
+use mathlib.Core.Path.{_≡_, refl, sym, ap, ap₂, _∙_}
+use mathlib.Core.Bool.{Bool, true, false, _||_, or-true, false≢true}
+use mathlib.Core.List.{List, [], _∷_, _++_, append-nil, append-assoc}
+use Prim.Native.Nat.{ℕ, zero, suc, _+_, _≤_, _<_}
+use native.Mathlib.Nat.{not-suc-le-zero, add-zero, zero-add, suc-add}
+use native.Mathlib.Numerals.{add-one}
+use native.Mathlib.Omega.{arith}
+use lib.ListN.{length, drop, set, getD, length-append, length-drop, drop-of-length-le}
+use lib.Seq.{drop-cons, drop-at, set-at, append-snoc}
+use Rattle.format.specs.Lists.{listed, total, joined, anyOf, _over_}
+
+-- ---- listed
+
+module _ {A : Type 0} where
+  pub length-listed : (n : ℕ) (f : ℕ → A) → length (listed n f) ≡ n
+  unfolding listed
+  length-listed zero f = refl
+  length-listed (suc n) f = ap suc (length-listed n (λ i. f (suc i)))
+
+  pub getD-listed : (n : ℕ) (f : ℕ → A) (d : A) (i : ℕ) → i < n → getD (listed n f) i d ≡ f i
+  unfolding listed
+  getD-listed zero f d i h = absurd (not-suc-le-zero h)
+  getD-listed (suc n) f d zero h = refl
+  getD-listed (suc n) f d (suc i) h = getD-listed n (λ k. f (suc k)) d i (omega arith)
+
+  -- what is listed depends on f at the places below n alone
+  pub listed-ext : (n : ℕ) (f g : ℕ → A) → ((i : ℕ) → i < n → f i ≡ g i) → listed n f ≡ listed n g
+  unfolding listed
+  listed-ext zero f g h = refl
+  listed-ext (suc n) f g h =
+      ap₂ (λ (x : A) (l : List A). x ∷ l) (h 0 (omega arith)) (listed-ext n (λ i. f (suc i)) (λ i. g (suc i)) (λ i l. h (suc i) (omega arith)))
+
+  pub listed-add : (n m : ℕ) (f : ℕ → A) → listed (n + m) f ≡ listed n f ++ listed m (λ i. f (n + i))
+  unfolding listed
+  listed-add zero m f = simp zero-add
+  listed-add (suc n) m f = simp suc-add (ap (λ (l : List A). f 0 ∷ l) (listed-add n m (λ i. f (suc i))))
+
+  pub listed-more : (n : ℕ) (f : ℕ → A) → listed (n + 1) f ≡ listed n f ++ (f n ∷ [])
+  unfolding listed
+  listed-more n f = listed-add n 1 f ∙ rw (add-zero n)
+
+-- ---- over
+
+module _ {A : Type 0} where
+  -- a turn of a loop that fills `lent` from its front: its store takes k elements to k + 1
+  pub grown : (f : ℕ → A) (lent : List A) (k : ℕ) → k < length lent → set (listed k f over lent) k (f k) ≡ listed (k + 1) f over lent
+  grown f lent k h =
+      rw (
+        length-listed k f,
+        length-listed (k + 1) f,
+        listed-more k f,
+        add-one k,
+        drop-cons lent k (f k) h,
+        set-at (listed k f) (getD lent k (f k)) (drop (suc k) lent) (f k) k (length-listed k f),
+      )
+      (sym (append-snoc (listed k f) (f k) (drop (suc k) lent)))
+
+  pub length-over : (xs lent : List A) → length xs ≤ length lent → length (xs over lent) ≡ length lent
+  length-over xs lent h = simp (length-append, length-drop) (omega arith)
+
+  -- nothing over a buffer leaves it
+  pub none-over : (xs lent : List A) → length xs ≡ 0 → lent ≡ xs over lent
+  none-over [] lent h = refl
+  none-over (x ∷ xs) lent h = absurd (omega arith)
+
+-- ---- whether f holds of one
+
+module _ {A : Type 0} (f : A → Bool) where
+  pub any-here : (xs : List A) (d : A) (k : ℕ) → k < length xs → f (getD xs k d) ≡ true → anyOf f xs ≡ true
+  unfolding anyOf
+  any-here [] d k l h = absurd (not-suc-le-zero l)
+  any-here (x ∷ xs) d zero l h = rw h
+  any-here (x ∷ xs) d (suc k) l h = rw (any-here xs d k (omega arith) h) (or-true (f x))
+
+  pub any-none : (xs : List A) (d : A) → anyOf f xs ≡ false → (k : ℕ) → k < length xs → f (getD xs k d) ≡ false
+  unfolding anyOf
+  any-none [] d h k l = absurd (not-suc-le-zero l)
+  any-none (x ∷ xs) d h zero l = either-left (f x) (anyOf f xs) h
+    where
+      either-left : (a b : Bool) → (a || b) ≡ false → a ≡ false
+      either-left true b e = e
+      either-left false b e = refl
+  any-none (x ∷ xs) d h (suc k) l = any-none xs d (either-right (f x) (anyOf f xs) h) k (omega arith)
+    where
+      either-right : (a b : Bool) → (a || b) ≡ false → b ≡ false
+      either-right true b e = absurd (false≢true (sym e))
+      either-right false b e = e
+
+  -- a turn of a loop that looks for one: the one passed is none, so that those left decide
+  pub any-later : (xs : List A) (d : A) (k : ℕ) → k < length xs → f (getD xs k d) ≡ false → anyOf f (drop k xs) ≡ anyOf f (drop (k + 1) xs)
+  unfolding anyOf
+  any-later xs d k l h = rw (add-one k, drop-cons xs k d l, h)
+
+  pub any-end : (xs : List A) (k : ℕ) → length xs ≤ k → anyOf f (drop k xs) ≡ false
+  unfolding anyOf
+  any-end xs k l = rw (drop-of-length-le xs {i = k} l)
+
+-- ---- totals and joined lists
+
+pub total-next : (n : ℕ) (f : ℕ → ℕ) → total (n + 1) f ≡ total n f + f n
+unfolding total
+total-next n f = rw (add-one n)
+
+module _ {A : Type 0} where
+  pub joined-next : (n : ℕ) (f : ℕ → List A) → joined (n + 1) f ≡ joined n f ++ f n
+  unfolding joined
+  joined-next n f = rw (add-one n)
+
+  pub length-joined : (n : ℕ) (f : ℕ → List A) → length (joined n f) ≡ total n (λ k. length (f k))
+  unfolding joined total
+  length-joined zero f = refl
+  length-joined (suc n) f = length-append (joined n f) (f n) ∙ ap (λ (m : ℕ). m + length (f n)) (length-joined n f)

@@ -1,0 +1,23 @@
+-- The octets that a field spans. Assumes nothing.
+use mathlib.Core.Path.{_≡_, refl, sym, ap, _∙_}
+use Prim.Native.Nat.{ℕ, _+_, _*_, _/_, _%_, _≤_, _<_}
+use native.Mathlib.Nat.{add-mul, div-add-mod', mul-right-comm}
+use native.Mathlib.Omega.{arith}
+use lib.Dec.{eqb}
+use borrow.Author.Tests.{ne-eqb, eq-eqb}
+use Rattle.format.specs.Bits.{spanOf, roundedUp}
+
+-- an empty list or width 0: none
+pub span-none : (s w n : ℕ) → n * w ≡ 0 → spanOf s w n ≡ 0
+unfolding spanOf
+span-none s w n h = rw (eq-eqb (n * w) 0 h)
+
+pub span-some : (s w n : ℕ) → 0 < n * w → spanOf s w n ≡ roundedUp (s + n * w)
+unfolding spanOf
+span-some s w n h = simp (ne-eqb (n * w) 0 (λ e. omega arith))
+
+-- eight numbers of width w make w octets, so that a span is counted without its bits
+pub eights : (n w : ℕ) → n * w ≡ n / 8 * w * 8 + n % 8 * w
+eights n w =
+    ap (λ (m : ℕ). m * w) (sym (div-add-mod' n 8)) ∙ add-mul (n / 8 * 8) (n % 8) w
+    ∙ ap (λ (m : ℕ). m + n % 8 * w) (mul-right-comm (n / 8) 8 w)

@@ -1,0 +1,82 @@
+// Places in bits and places in octets, turned into each other by the rounding rules, and powers of two.
+ghost use mathlib.Core.Path.{_≡_};
+ghost use Prim.Native.Nat.{_*_, _<_, _≤_, _^_, _/_, _%_};
+ghost use Rattle.format.specs.Bits.{roundedUp, spanOf};
+ghost use Rattle.format.specs.Grouping.{bits};
+use format::BitPlace;
+use format::OctetPlace;
+
+// The octets that reach as far as a place in bits.
+pub fn octets_to(place: BitPlace) -> OctetPlace
+    ensures { λ r. ⌜ r .0 ≡ roundedUp (place .0) ⌝ }
+{
+    OctetPlace(place.0 / 8 + (place.0 % 8 + 7) / 8)
+}
+
+// The octet that a place in bits lies in.
+pub fn octet_of(place: BitPlace) -> OctetPlace
+    ensures { λ r. ⌜ r .0 ≡ place .0 / 8 ⌝ }
+{
+    OctetPlace(place.0 / 8)
+}
+
+// The first bit of an octet.
+pub fn first_bit(place: OctetPlace) -> BitPlace
+    requires { ⌜ place .0 < 2 ^ 61 ⌝ }
+    ensures { λ r. ⌜ r .0 ≡ place .0 * 8 ⌝ }
+{
+    BitPlace(place.0 * 8)
+}
+
+// A product that is far from wrapping.
+fn times(x: usize, width: usize) -> usize
+    requires { ⌜ (x < 2 ^ 58) × (width ≤ 32) ⌝ }
+    ensures { λ r. ⌜ (r ≡ x * width) × (r ≤ x * 32) ⌝ }
+{
+    x * width
+}
+
+// The octets that a field spans, of any list's length: eight numbers of width w span w octets, so that the bits, which may
+// pass 64 bits of arithmetic, are never counted.
+pub fn span(start: BitPlace, width: usize, count: usize) -> OctetPlace
+    requires { ⌜ (start .0 ≤ 7) × (width ≤ 32) × (count < 2 ^ 61) ⌝ }
+    ensures { λ r. ⌜ r .0 ≡ spanOf (start .0) width count ⌝ }
+{
+    if count == 0 {
+        return OctetPlace(0);
+    }
+    if width == 0 {
+        return OctetPlace(0);
+    }
+    OctetPlace(times(count / 8, width) + (start.0 + times(count % 8, width) + 7) / 8)
+}
+
+// 2 to the k.
+pub fn power(k: usize) -> u64
+    requires { ⌜ k < 64 ⌝ }
+    ensures { λ r. ⌜ r ≡ 2 ^ k ⌝ }
+{
+    1u64 << k
+}
+
+// The `width` bits of a number that `after` others follow: one shift and one remainder.
+pub fn cut(number: u64, after: usize, width: usize) -> u64
+    requires { ⌜ (after < 64) × (width < 64) ⌝ }
+    ensures { λ r. ⌜ r ≡ number / 2 ^ after % 2 ^ width ⌝ }
+{
+    (number >> after) % power(width)
+}
+
+// An octet, as a number that may grow.
+pub fn wide(octet: u8) -> u64
+    ensures { λ r. ⌜ (r ≡ octet) × (r < 256) ⌝ }
+{
+    octet as u64
+}
+
+// "Let bits(x) be the count of binary digits of x, 0 for 0."
+pub fn bits(x: u32) -> u32
+    ensures { λ r. ⌜ (r ≡ bits x) × (r ≤ 32) ⌝ }
+{
+    32 - u32::leading_zeros(x)
+}

@@ -1,0 +1,166 @@
+// Reading bit fields: the cursor by value beside the octets, and the bit reader.
+ghost use mathlib.Core.Path.{_≡_};
+ghost use Prim.Native.Nat.{_+_, _*_, _<_, _≤_, _^_};
+ghost use lib.ListN.{length, getD};
+ghost use Rattle.format.specs.Lists.{_over_};
+ghost use Rattle.format.specs.Refusals.{left};
+ghost use Rattle.format.specs.Bits.{numberAt, fieldOf, readField};
+ghost use Rattle.stream.specs.Cursor.{madeAt, stepped};
+use format::BitPlace;
+use format::Fetched;
+use format::OctetPlace;
+use format::Refusal;
+
+// The octet at a place, or 0 past the end.
+fn octet_at(octets: &[u8], at: usize) -> u64
+    ensures { λ r. ⌜ (r ≡ getD (now (octets .entry)) at 0) × (r < 256) ⌝ }
+{
+    if at < octets.len() {
+        places::wide(octets[at])
+    } else {
+        0
+    }
+}
+
+// Five octets, the first the most significant, as one number.
+fn five(a: u64, b: u64, c: u64, d: u64, e: u64) -> u64
+    requires { ⌜ (a < 256) × (b < 256) × (c < 256) × (d < 256) × (e < 256) ⌝ }
+    ensures { λ r. ⌜ r ≡ (((a * 256 + b) * 256 + c) * 256 + d) * 256 + e ⌝ }
+{
+    (((a * 256 + b) * 256 + c) * 256 + d) * 256 + e
+}
+
+// Five octets from a place on: no number of up to 32 bits touches more. Where they are all there none is tested by itself.
+fn gathered(octets: &[u8], place: OctetPlace) -> u64
+    requires { ⌜ place .0 < 2 ^ 61 ⌝ }
+    ensures { λ r. ⌜ r ≡ numberAt (now (octets .entry)) (place .0 * 8) 40 ⌝ }
+{
+    let at = place.0;
+    if octets.len() < at + 5 {
+        return five(
+            octet_at(octets, at),
+            octet_at(octets, at + 1),
+            octet_at(octets, at + 2),
+            octet_at(octets, at + 3),
+            octet_at(octets, at + 4),
+        );
+    }
+    five(
+        places::wide(octets[at]),
+        places::wide(octets[at + 1]),
+        places::wide(octets[at + 2]),
+        places::wide(octets[at + 3]),
+        places::wide(octets[at + 4]),
+    )
+}
+
+// The number of `width` bits at a place: gather, shift once, take a remainder. Bits past the end are 0.
+pub fn read_number(octets: &[u8], place: BitPlace, width: usize) -> u32
+    requires { ⌜ width ≤ 32 ⌝ }
+    ensures { λ r. ⌜ r ≡ numberAt (now (octets .entry)) (place .0) width ⌝ }
+{
+    let number = gathered(octets, places::octet_of(place));
+    places::cut(number, 40 - place.0 % 8 - width, width) as u32
+}
+
+// A place in octets that lie beside it, the width of the numbers from there on, and how many of them are left.
+pub struct Cursor {
+    pub place: BitPlace,
+    pub width: usize,
+    pub left: u32,
+}
+
+pub enum Made {
+    Cursor(Cursor),
+    Refused(Refusal),
+}
+
+// The next number and the cursor behind it, or the end.
+pub enum Step {
+    Number(u32, Cursor),
+    End,
+}
+
+impl Cursor {
+    pub fn new(place: BitPlace, width: usize, count: u32) -> Made
+        ensures { λ r. ⌜ r ≡ madeAt place width count ⌝ }
+    {
+        if 32 < width {
+            return Made::Refused(Refusal::Width);
+        }
+        Made::Cursor(Cursor {
+            place,
+            width,
+            left: count,
+        })
+    }
+
+    // Width 0 gives zeros until none are left, and looks at no octet.
+    pub fn next(self, octets: &[u8]) -> Step
+        requires { ⌜ (self .place .0 < 2 ^ 63) × (self .width ≤ 32) ⌝ }
+        ensures { λ r. ⌜ r ≡ stepped (now (octets .entry)) self ⌝ }
+    {
+        if self.left == 0 {
+            return Step::End;
+        }
+        let place = self.place;
+        let number = read_number(octets, place, self.width);
+        Step::Number(
+            number,
+            Cursor {
+                place: BitPlace(place.0 + self.width),
+                width: self.width,
+                left: self.left - 1,
+            },
+        )
+    }
+}
+
+// The numbers that a cursor has left, at the front of the lent ones.
+fn fill(octets: &[u8], cursor: Cursor, numbers: &mut [u32])
+    requires { ⌜ (cursor .place .0 ≤ 7) × (cursor .width ≤ 32) × (cursor .left ≤ length (now numbers)) ⌝ }
+    ensures { λ _. ⌜ now (numbers .exit) ≡ fieldOf (now (octets .entry)) (cursor .place .0) (cursor .width) (cursor .left) over now (numbers .entry) ⌝ }
+{
+    let mut here = cursor;
+    let mut k = 0usize;
+    loop {
+        let Step::Number(number, behind) = here.next(octets) else {
+            return;
+        };
+        numbers[k] = number;
+        here = behind;
+        k += 1;
+    }
+}
+
+// Reads `count` numbers of `width` bits from bit `start` of the octets on.
+pub fn read_field(
+    octets: &[u8],
+    start: BitPlace,
+    width: usize,
+    count: u32,
+    numbers: &mut [u32],
+) -> Fetched
+    ensures { λ r. ⌜ left r (now (numbers .exit)) ≡ readField (now (octets .entry)) (start .0) width count (now (numbers .entry)) ⌝ }
+{
+    if 32 < width {
+        return Fetched::Refused(Refusal::Width);
+    }
+    if 7 < start.0 {
+        return Fetched::Refused(Refusal::Width);
+    }
+    let n = count as usize;
+    if octets.len() < places::span(start, width, n).0 {
+        return Fetched::Refused(Refusal::Short);
+    }
+    if numbers.len() < n {
+        return Fetched::Refused(Refusal::Room);
+    }
+    let cursor = Cursor {
+        place: start,
+        width,
+        left: count,
+    };
+    fill(octets, cursor, numbers);
+    Fetched::Done
+}
