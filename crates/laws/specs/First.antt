@@ -1,10 +1,11 @@
 -- Which refusal is the first, from what the code knows at a return. Assumes nothing.
 use Prim.Native.Nat.{ℕ, zero, suc}
 use mathlib.Core.Path.{_≡_, refl, sym, ap, _∙_}
-use mathlib.Core.Bool.{true, false, not}
+use mathlib.Core.Bool.{Bool, true, false, not}
 use mathlib.Core.List.{List, [], _∷_, _++_}
 use lib.Dec.{eqb}
 use lib.ListN.{getD, take, drop}
+use native.Mathlib.Omega.{arith}
 use borrow.Author.Tests.{le-ltb, eq-eqb, ne-eqb, ltb-true, ltb-false, eqb-true, eqb-false, not-true, not-false}
 use Rattle.format.specs.Refusals.{Row, _gives_, first, refusalNumber}
 use Rattle.format.specs.declared.Refusal.{Refusal}
@@ -21,7 +22,38 @@ not-equal-true a b h = eqb-false a b (not-true (eqb a b) h)
 pub not-equal-false : (a b : ℕ) → not (eqb a b) ≡ false → a ≡ b
 not-equal-false a b h = eqb-true a b (not-false (eqb a b) h)
 
-pub ruleset tests = (le-ltb, ne-eqb, not-equal-fails, ltb-true, ltb-false, eqb-true, eqb-false, not-equal-true, not-equal-false)
+-- a test that is none of numbers is read as a number of its own
+unfoldable pub flag : Bool → ℕ
+flag true = 1
+flag false = 0
+
+pub flag-true : (t : Bool) → t ≡ true → flag t ≡ 1
+unfolding flag
+flag-true t h = rw h
+
+pub flag-false : (t : Bool) → t ≡ false → flag t ≡ 0
+unfolding flag
+flag-false t h = rw h
+
+pub flag-fails : (t : Bool) → flag t ≡ 0 → t ≡ false
+unfolding flag
+flag-fails true h = absurd (omega arith)
+flag-fails false h = refl
+
+pub ruleset tests = (
+  le-ltb,
+  ne-eqb,
+  not-equal-fails,
+  ltb-true,
+  ltb-false,
+  eqb-true,
+  eqb-false,
+  not-equal-true,
+  not-equal-false,
+  flag-true,
+  flag-false,
+  flag-fails,
+)
 
 -- ---- a refusal is known by its number
 

@@ -3,7 +3,7 @@ use mathlib.Core.Path.{_≡_, refl, sym, ap, _∙_}
 use mathlib.Core.Bool.{false}
 use mathlib.Core.List.{List, [], _++_}
 use Prim.Native.Nat.{ℕ, zero, suc, _+_, _*_, _/_, _^_, _≤_, _<_}
-use native.Mathlib.Nat.{mod-eq-of-lt, suc-mul, mul-le-mul-right, not-suc-le-zero}
+use native.Mathlib.Nat.{mod-eq-of-lt, zero-mul, suc-mul, mul-le-mul-right, not-suc-le-zero}
 use native.Mathlib.Omega.{arith}
 use lib.Dec.{leb}
 use lib.ListN.{length, getD, drop, length-append, List·getD-append, List·getD-eq-default}
@@ -26,10 +26,13 @@ module _ (rest lent : List ℕ) (s w : ℕ) (xs : List ℕ) where
       length-append (listed s (bitAt lent) ++ stringOf w xs) rest
       ∙ omega (arith, length-append (listed s (bitAt lent)) (stringOf w xs), length-listed s (bitAt lent), length-string w xs)
 
-  -- nothing is written of an empty list
-  pub written-none : length xs * w ≡ 0 → lent ≡ written rest lent s w xs
+  -- where there is no bit nothing is written
+  written-none : length xs * w ≡ 0 → lent ≡ written rest lent s w xs
   unfolding listed
   written-none h = rw (span-none s w (length xs) h)
+
+  pub written-empty : length xs ≡ 0 → lent ≡ written rest lent s w xs
+  written-empty h = written-none (rw h (zero-mul w))
 
   -- the octets after the span are as they were
   pub written-after : drop (spanOf s w (length xs)) (written rest lent s w xs) ≡ drop (spanOf s w (length xs)) lent
