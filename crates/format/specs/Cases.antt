@@ -3,10 +3,10 @@ use Prim.Native.Nat.{ℕ, _*_}
 use mathlib.Core.Path.{_≡_, refl}
 use mathlib.Core.List.{List, [], _∷_, _++_, map, flatMap}
 use lib.ListN.{length, replicate}
-use lib.IntN.{pos}
+use lib.IntN.{pos, negsuc}
 use Rattle.format.specs.Lists.{listed, total, joined, anyOf, greatest, least}
-use Rattle.format.specs.Refusals.{first, fetchedNumber, unpackedNumber, unrolledNumber, packedNumber}
-use Rattle.format.specs.Bits.{bitIn, numberOf, spanOf, readField}
+use Rattle.format.specs.Refusals.{first, fetchedNumber, storedNumber, unpackedNumber, unrolledNumber, packedNumber}
+use Rattle.format.specs.Bits.{bitIn, numberOf, spanOf, readField, writeField}
 use Rattle.format.specs.Layout.{pointSize, pointOctets, levelSize, levelOctets, groupSize, bigEndian}
 use Rattle.format.specs.Template.{widthsAt, lengthsAt, valuesAt}
 use Rattle.format.specs.Unpacking.{codesOf, saidBy, groupWidth, groupLength, pointsBefore, bitsBefore, wrongGroup, decoded, pointOf, pointAt, pointsUpTo, placesOf, unpack52}
@@ -40,6 +40,11 @@ abbrev reading : List ℕ → ℕ → ℕ → ℕ → Seen
 reading octets start width count =
     let r = readField octets start width count (lent count) in
     record { number = fetchedNumber (r .answer); left = r .buffer ∷ [] }
+
+abbrev writing : List ℕ → ℕ → ℕ → ℕ → Seen
+writing xs start width octets =
+    let r = writeField xs start width (lent octets) in
+    record { number = storedNumber (r .answer); left = r .buffer ∷ [] }
 
 abbrev numbers : List ℕ → Seen
 numbers xs = record { number = 0; left = xs ∷ [] }
@@ -80,25 +85,33 @@ unrolling b M declared payload =
 abbrev levels : List ℕ → Seen
 levels xs = numbers (flatMap levelOctets xs)
 
--- room for g groups and n octets of payload; the group list is not shown
+-- room for g groups and n octets of payload
 abbrev packing : ℕ → List ℕ → ℕ → ℕ → Seen
 packing k xs g n =
     let r = pack k xs (lent (g * groupSize)) (lent n) (lent summarySize) in
-    record { number = packedNumber (r .answer); left = r .payload ∷ r .summary ∷ [] }
+    record { number = packedNumber (r .answer); left = r .groups ∷ r .payload ∷ r .summary ∷ [] }
 
-abbrev packs : List ℕ → ℕ → List ℕ → Seen
-packs templateNumbers groups payload =
-    record { number = 0; left = payload ∷ inFours (templateNumbers ++ (groups ∷ length payload ∷ [])) ∷ [] }
+-- four numbers each
+abbrev group : ℕ → ℕ → ℕ → ℕ → List ℕ
+group start count least width = start ∷ count ∷ least ∷ width ∷ []
+
+-- template numbers, payload and groups
+abbrev packs : List ℕ → List ℕ → List (List ℕ) → Seen
+packs templateNumbers payload groups = record {
+  number = 0;
+  left = flatMap inFours groups ∷ payload ∷ inFours (templateNumbers ++ (length groups ∷ length payload ∷ [])) ∷ [];
+}
 
 -- ---- the cases
 
 abbrev pub cases : List Case
 cases =
+    -- those marked P
     reading (0xBA ∷ 0xF0 ∷ []) 0 3 4 shows numbers (5 ∷ 6 ∷ 5 ∷ 7 ∷ [])
     ∷ reading (0xBA ∷ 0xF0 ∷ []) 2 5 2 shows numbers (29 ∷ 15 ∷ [])
-    ∷ packing 2 (0 ∷ 0 ∷ 0 ∷ 0 ∷ 8 ∷ 8 ∷ 8 ∷ []) 2 1 shows packs (4 ∷ 2 ∷ 0 ∷ 0 ∷ 4 ∷ 0 ∷ 3 ∷ 0 ∷ []) 2 (0x08 ∷ [])
-    ∷ packing 1 (5 ∷ 6 ∷ 5 ∷ 7 ∷ []) 4 2 shows packs (3 ∷ 4 ∷ 0 ∷ 0 ∷ 1 ∷ 0 ∷ 1 ∷ 0 ∷ []) 4 (0xBA ∷ 0xF0 ∷ [])
-    ∷ packing 4 (5 ∷ 6 ∷ 5 ∷ 7 ∷ []) 2 3 shows packs (3 ∷ 2 ∷ 0 ∷ 1 ∷ 3 ∷ 0 ∷ 1 ∷ 0 ∷ []) 2 (0xBC ∷ 0x80 ∷ 0x40 ∷ [])
+    ∷ packing 2 (0 ∷ 0 ∷ 0 ∷ 0 ∷ 8 ∷ 8 ∷ 8 ∷ []) 2 1 shows packs (4 ∷ 2 ∷ 0 ∷ 0 ∷ 4 ∷ 0 ∷ 3 ∷ 0 ∷ []) (0x08 ∷ []) (group 0 4 0 0 ∷ group 4 3 8 0 ∷ [])
+    ∷ packing 1 (5 ∷ 6 ∷ 5 ∷ 7 ∷ []) 4 2 shows packs (3 ∷ 4 ∷ 0 ∷ 0 ∷ 1 ∷ 0 ∷ 1 ∷ 0 ∷ []) (0xBA ∷ 0xF0 ∷ []) (group 0 1 5 0 ∷ group 1 1 6 0 ∷ group 2 1 5 0 ∷ group 3 1 7 0 ∷ [])
+    ∷ packing 4 (5 ∷ 6 ∷ 5 ∷ 7 ∷ []) 2 3 shows packs (3 ∷ 2 ∷ 0 ∷ 1 ∷ 3 ∷ 0 ∷ 1 ∷ 0 ∷ []) (0xBC ∷ 0x80 ∷ 0x40 ∷ []) (group 0 3 5 1 ∷ group 3 1 7 0 ∷ [])
     ∷ unpacking (template 1 3 2 0 1 3 0 1 0) 4 (0xBC ∷ 0x80 ∷ 0x40 ∷ []) shows points (number 5 ∷ Missing1 ∷ number 5 ∷ Missing1 ∷ [])
     ∷ unpacking (template 2 3 2 0 1 3 0 1 0) 4 (0xBC ∷ 0x80 ∷ 0x40 ∷ []) shows points (Missing2 ∷ Missing1 ∷ Missing2 ∷ Missing1 ∷ [])
     ∷ unpacking (template 0 0 1 0 0 0 0 3 0) 3 [] shows points (number 0 ∷ number 0 ∷ number 0 ∷ [])
@@ -107,6 +120,7 @@ cases =
     ∷ restoring 2 1 (template 0 0 1 2 0 0 0 4 0) 4 (0x0A ∷ 0x0C ∷ 0x81 ∷ 0x09 ∷ []) shows points (number 10 ∷ number 12 ∷ number 15 ∷ number 18 ∷ [])
     ∷ unrolling 4 9 10 (0x3C ∷ 0xB5 ∷ []) shows levels (3 ∷ 3 ∷ 3 ∷ 3 ∷ 3 ∷ 3 ∷ 3 ∷ 3 ∷ 3 ∷ 5 ∷ [])
     ∷ unrolling 4 9 9 (0x3C ∷ 0xB5 ∷ []) shows refused 9 (lent 18 ∷ [])
+    -- the others, but for the list of 325 numbers, which is run
     ∷ unrolling 4 9 5 (0x3C ∷ 0x50 ∷ []) shows levels (3 ∷ 3 ∷ 3 ∷ 5 ∷ 0 ∷ [])
     ∷ unrolling 4 9 4 (0x3C ∷ 0x50 ∷ []) shows refused 9 (lent 8 ∷ [])
     ∷ unpacking (template 0 31 1 1 0 0 0 1 0) 1 (0xFF ∷ 0xFF ∷ 0xFF ∷ 0xFE ∷ 0x80 ∷ []) shows points (number 2147483648 ∷ [])
@@ -115,9 +129,18 @@ cases =
     ∷ unpacking (template 0 0 1 32 0 0 0 1 0) 1 (0xFF ∷ 0xFF ∷ 0xFF ∷ 0xFE ∷ []) shows refused 8 (lent 9 ∷ [])
     ∷ unpacking (template 0 0 1 0 0 0 0 1 32) 1 (0 ∷ 0 ∷ 0 ∷ 0 ∷ []) shows points (number 0 ∷ [])
     ∷ unpacking (template 0 0 1 0 0 0 0 1 33) 1 (0 ∷ 0 ∷ 0 ∷ 0 ∷ 0 ∷ []) shows refused 5 (lent 9 ∷ [])
-    ∷ packing 1 (2147483647 ∷ []) 1 4 shows packs (31 ∷ 1 ∷ 0 ∷ 0 ∷ 0 ∷ 0 ∷ 1 ∷ 0 ∷ []) 1 (0xFF ∷ 0xFF ∷ 0xFF ∷ 0xFE ∷ [])
-    ∷ packing 1 (2147483648 ∷ []) 1 4 shows refused 13 (lent 4 ∷ lent summarySize ∷ [])
-    ∷ packing 0 (1 ∷ []) 1 4 shows refused 13 (lent 4 ∷ lent summarySize ∷ [])
+    ∷ packing 1 (2147483647 ∷ []) 1 4 shows packs (31 ∷ 1 ∷ 0 ∷ 0 ∷ 0 ∷ 0 ∷ 1 ∷ 0 ∷ []) (0xFF ∷ 0xFF ∷ 0xFF ∷ 0xFE ∷ []) (group 0 1 2147483647 0 ∷ [])
+    ∷ packing 1 (2147483648 ∷ []) 1 4 shows refused 13 (lent groupSize ∷ lent 4 ∷ lent summarySize ∷ [])
+    ∷ packing 0 (1 ∷ []) 1 4 shows refused 13 (lent groupSize ∷ lent 4 ∷ lent summarySize ∷ [])
+    -- sentences of the page that no case of its own shows: what 10 leaves, first values without a sign, minus zero, the writer
+    ∷ packing 1 (5 ∷ 6 ∷ 5 ∷ 7 ∷ []) 2 2 shows refused 10 (flatMap inFours (group 0 1 5 0 ∷ group 1 1 6 0 ∷ []) ∷ lent 2 ∷ lent summarySize ∷ [])
+    ∷ packing 1 (5 ∷ 6 ∷ 5 ∷ 7 ∷ []) 4 1 shows refused 10 (flatMap inFours (group 0 1 5 0 ∷ group 1 1 6 0 ∷ group 2 1 5 0 ∷ group 3 1 7 0 ∷ []) ∷ lent 1 ∷ lent summarySize ∷ [])
+    ∷ restoring 2 4 (template 0 31 1 0 0 0 0 4 0) 4 (0x80 ∷ 0 ∷ 0 ∷ 0 ∷ 0 ∷ 0 ∷ 0 ∷ 1 ∷ 0x80 ∷ 0 ∷ 0 ∷ 0 ∷ 0 ∷ 0 ∷ 0 ∷ 0 ∷ []) shows points (number 2147483648 ∷ number 1 ∷ Normal (negsuc 2147483645) ∷ Normal (negsuc 4294967292) ∷ [])
+    ∷ writing (5 ∷ 6 ∷ 5 ∷ 7 ∷ []) 0 3 3 shows numbers (0xBA ∷ 0xF0 ∷ 0xFF ∷ [])
+    ∷ writing (29 ∷ 15 ∷ []) 2 5 3 shows numbers (0xFA ∷ 0xF0 ∷ 0xFF ∷ [])
+    ∷ writing [] 2 5 3 shows numbers (0xFF ∷ 0xFF ∷ 0xFF ∷ [])
+    ∷ writing (32 ∷ []) 7 5 1 shows refused 13 (lent 1 ∷ [])
+    ∷ writing (31 ∷ []) 7 5 1 shows refused 10 (lent 1 ∷ [])
     ∷ []
 
 abbrev found : Case → Seen
@@ -127,5 +150,5 @@ abbrev shown : Case → Seen
 shown (x shows y) = y
 
 pub all-hold : map found cases ≡ map shown cases
-unfolding listed total joined anyOf greatest least flatMap first bitIn numberOf spanOf readField widthsAt lengthsAt valuesAt codesOf saidBy groupWidth groupLength pointsBefore bitsBefore wrongGroup decoded pointOf pointAt pointsUpTo placesOf unpack52 descriptorsOf raised expected restored beyond points53 unpack53 codesRead levelsOf repeatsFirst levelsIn runLength digitsIn bits widthOf endsBefore groupsFrom groupsOf recordsFrom widthCoding gcdIn gcd gcdFrom divisorUpTo incrementOf butLast lengthCoding templateOf lengthCodes valueString payloadOf packingOf pack
+unfolding listed total joined anyOf greatest least flatMap first bitIn numberOf spanOf readField writeField widthsAt lengthsAt valuesAt codesOf saidBy groupWidth groupLength pointsBefore bitsBefore wrongGroup decoded pointOf pointAt pointsUpTo placesOf unpack52 descriptorsOf raised expected restored beyond points53 unpack53 codesRead levelsOf repeatsFirst levelsIn runLength digitsIn bits widthOf endsBefore groupsFrom groupsOf recordsFrom widthCoding gcdIn gcd gcdFrom divisorUpTo incrementOf butLast lengthCoding templateOf lengthCodes valueString payloadOf packingOf pack
 all-hold = refl

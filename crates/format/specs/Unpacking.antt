@@ -69,7 +69,7 @@ pub record Said : Type 0 where
   pub codes : Codes
   pub values : List (List ℕ)
 
--- After this the payload is not mentioned: what is not said here cannot matter.
+-- Points are made of this alone: what is not said here, pads and the last length code, cannot matter to them.
 unfoldable pub saidBy : ℕ → Template → List ℕ → Said
 saidBy start t payload =
     let codes = codesOf start t payload in
