@@ -7,13 +7,13 @@ use lib.IntN.{pos, negsuc}
 use Rattle.format.specs.Lists.{listed, total, joined, anyOf, greatest, least}
 use Rattle.format.specs.Refusals.{first, fetchedNumber, storedNumber, unpackedNumber, unrolledNumber, packedNumber}
 use Rattle.format.specs.Bits.{bitIn, numberOf, spanOf, readField, writeField}
-use Rattle.format.specs.Layout.{pointSize, pointOctets, levelSize, levelOctets, groupSize, bigEndian}
+use Rattle.format.specs.Layout.{pointSize, pointOctets, levelSize, levelOctets, groupSize, inFours}
 use Rattle.format.specs.Template.{widthsAt, lengthsAt, valuesAt}
 use Rattle.format.specs.Unpacking.{codesOf, saidBy, groupWidth, groupLength, pointsBefore, bitsBefore, wrongGroup, decoded, pointOf, pointAt, pointsUpTo, placesOf, unpack52}
 use Rattle.format.specs.Differences.{descriptorsOf, raised, expected, restored, beyond, points53, unpack53}
 use Rattle.format.specs.RunLength.{codesRead, levelsOf, repeatsFirst, levelsIn, runLength}
 use Rattle.format.specs.Grouping.{digitsIn, bits, widthOf, endsBefore, groupsFrom, groupsOf, recordsFrom}
-use Rattle.format.specs.Packing.{inFours, summarySize, widthCoding, gcdIn, gcd, gcdFrom, divisorUpTo, incrementOf, butLast, lengthCoding, templateOf, lengthCodes, valueString, payloadOf, packingOf, pack}
+use Rattle.format.specs.Packing.{summarySize, widthCoding, gcdIn, gcd, gcdFrom, divisorUpTo, incrementOf, butLast, lengthCoding, templateOf, lengthCodes, valueString, payloadOf, packingOf, pack}
 use Rattle.format.specs.declared.Template.{Template}
 use Rattle.format.specs.declared.Differencing.{Differencing}
 use Rattle.format.specs.declared.DecodedValue.{DecodedValue}

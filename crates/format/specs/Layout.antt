@@ -1,7 +1,7 @@
 -- Document 01, "Port order and changes of shape": how points, levels, numbers and groups lie in lent octets, "all
 -- big-endian; spare octets short of a whole one are not used". Assumes nothing.
 use Prim.Native.Nat.{ℕ, suc, _-_, _/_, _*_, _%_, _^_}
-use mathlib.Core.List.{List, [], _∷_, _++_}
+use mathlib.Core.List.{List, [], _∷_, flatMap}
 use lib.ListN.{length}
 use lib.IntN.{ℤ, pos, negsuc}
 use Rattle.format.specs.Lists.{listed}
@@ -21,6 +21,9 @@ wholeOnes n octets = length octets / n
 -- "A number to pack and each of a group's four numbers take four octets"
 abbrev pub numbersIn : List ℕ → List ℕ
 numbersIn octets = fieldOf octets 0 32 (wholeOnes 4 octets)
+
+abbrev pub inFours : List ℕ → List ℕ
+inFours numbers = flatMap (bigEndian 4) numbers
 
 -- "a level two"
 abbrev pub levelSize : ℕ

@@ -6,7 +6,7 @@ use lib.Dec.{eqb, leb, ltb}
 use lib.ListN.{length, take, getD}
 use Rattle.format.specs.Lists.{greatest, least, _over_}
 use Rattle.format.specs.Bits.{roundedUp, stringOf, octetsOf}
-use Rattle.format.specs.Layout.{bigEndian, wholeOnes, groupSize, groupNumbers}
+use Rattle.format.specs.Layout.{inFours, wholeOnes, groupSize, groupNumbers}
 use Rattle.format.specs.Refusals.{Row, _gives_, first}
 use Rattle.format.specs.Grouping.{bits, widthOf, groups01, recordsFrom, numberRefusals}
 use Rattle.format.specs.declared.Refusal.{Refusal}
@@ -135,10 +135,6 @@ summaryNumbers p = templateNumbers (p .template) ++ (length (p .records) ∷ len
 
 abbrev pub summarySize : ℕ
 summarySize = 40
-
--- "A number to pack and each of a group's four numbers take four octets"
-abbrev pub inFours : List ℕ → List ℕ
-inFours numbers = flatMap (bigEndian 4) numbers
 
 -- what packing comes to: its answer, and what was lent, as it is left
 pub record Parcelled : Type 0 where

@@ -135,15 +135,13 @@ number-five octets at ha hb hc hd he hr =
       number-octet octets at 4 (omega arith),
     )
 
--- a number, out of n whole octets that it stands in
-pub number-read : (octets : List ℕ) (p w n : ℕ) → p % 8 + w ≤ n * 8
-    → numberOf (bitIn 8 octets) (p / 8 * 8) (n * 8) / 2 ^ (n * 8 - p % 8 - w) % 2 ^ w ≡ numberOf (bitIn 8 octets) p w
-number-read octets p w n h =
-    let c : ℕ = n * 8 - p % 8 - w in
-    let e₁ : n * 8 ≡ p % 8 + w + c = omega arith in
-    let e₂ : p / 8 * 8 + p % 8 ≡ p = omega arith in
-    ap (λ (m : ℕ). numberOf (bitIn 8 octets) (p / 8 * 8) m / 2 ^ c % 2 ^ w) e₁
-    ∙ number-mid (bit-lt 8 octets) (p / 8 * 8) (p % 8) w c ∙ ap (λ (q : ℕ). numberOf (bitIn 8 octets) q w) e₂
+-- a number that starts at bit s of n whole octets
+pub number-read : (octets : List ℕ) (at s w n : ℕ) → s + w ≤ n * 8
+    → numberOf (bitIn 8 octets) (at * 8) (n * 8) / 2 ^ (n * 8 - s - w) % 2 ^ w ≡ numberOf (bitIn 8 octets) (at * 8 + s) w
+number-read octets at s w n h =
+    let c : ℕ = n * 8 - s - w in
+    let e : n * 8 ≡ s + w + c = omega arith in
+    ap (λ (m : ℕ). numberOf (bitIn 8 octets) (at * 8) m / 2 ^ c % 2 ^ w) e ∙ number-mid (bit-lt 8 octets) (at * 8) s w c
 
 -- the bits of octets that are made of a source of bits are that source's
 pub bit-listed : {f : ℕ → ℕ} → Bits f → (n i : ℕ) → i < n * 8 → bitIn 8 (listed n (λ k. numberOf f (k * 8) 8)) i ≡ f i

@@ -6,3 +6,4 @@ pub mod Strings
 pub mod Digits
 pub mod Spans
 pub mod Written
+pub mod Stores

@@ -67,6 +67,14 @@ pub fn cut(number: u64, after: usize, width: usize) -> u64
     (number >> after) % power(width)
 }
 
+// The octet of a number that `after` bits follow.
+pub fn octet_in(number: u64, after: usize) -> u8
+    requires { ⌜ after < 64 ⌝ }
+    ensures { λ r. ⌜ r ≡ number / 2 ^ after % 256 ⌝ }
+{
+    ((number >> after) % 256) as u8
+}
+
 // An octet, as a number that may grow.
 pub fn wide(octet: u8) -> u64
     ensures { λ r. ⌜ (r ≡ octet) × (r < 256) ⌝ }

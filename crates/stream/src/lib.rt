@@ -32,7 +32,7 @@ fn five(a: u64, b: u64, c: u64, d: u64, e: u64) -> u64
 
 // Five octets from a place on: no number of up to 32 bits touches more. Where they are all there none is tested by itself.
 fn gathered(octets: &[u8], place: OctetPlace) -> u64
-    requires { ⌜ place .0 < 2 ^ 61 ⌝ }
+    requires { ⌜ place .0 < 2 ^ 63 ⌝ }
     ensures { λ r. ⌜ r ≡ numberAt (now (octets .entry)) (place .0 * 8) 40 ⌝ }
 {
     let at = place.0;
@@ -54,13 +54,20 @@ fn gathered(octets: &[u8], place: OctetPlace) -> u64
     )
 }
 
-// The number of `width` bits at a place: gather, shift once, take a remainder. Bits past the end are 0.
+// The number of `width` bits from a bit of an octet on: gather, shift once, take a remainder. Bits past the end are 0.
+pub fn read_in_octet(octets: &[u8], octet: OctetPlace, bit: usize, width: usize) -> u32
+    requires { ⌜ (octet .0 < 2 ^ 63) × (bit ≤ 7) × (width ≤ 32) ⌝ }
+    ensures { λ r. ⌜ r ≡ numberAt (now (octets .entry)) (octet .0 * 8 + bit) width ⌝ }
+{
+    places::cut(gathered(octets, octet), 40 - bit - width, width) as u32
+}
+
+// The number of `width` bits at a place.
 pub fn read_number(octets: &[u8], place: BitPlace, width: usize) -> u32
     requires { ⌜ width ≤ 32 ⌝ }
     ensures { λ r. ⌜ r ≡ numberAt (now (octets .entry)) (place .0) width ⌝ }
 {
-    let number = gathered(octets, places::octet_of(place));
-    places::cut(number, 40 - place.0 % 8 - width, width) as u32
+    read_in_octet(octets, places::octet_of(place), place.0 % 8, width)
 }
 
 // A place in octets that lie beside it, the width of the numbers from there on, and how many of them are left.

@@ -21,14 +21,6 @@ pub struct Pen {
     pub pending: usize,
 }
 
-// The octet of a number that `after` bits follow.
-fn octet_of(number: u64, after: usize) -> u8
-    requires { ⌜ after < 64 ⌝ }
-    ensures { λ r. ⌜ r ≡ number / 2 ^ after % 256 ⌝ }
-{
-    ((number >> after) % 256) as u8
-}
-
 // A number of few bits, and k zero bits behind it.
 fn shifted(number: u64, k: usize) -> u64
     requires { ⌜ (number < 256) × (k ≤ 32) ⌝ }
@@ -48,7 +40,7 @@ pub fn put(pen: Pen, x: u64, width: usize, octets: &mut [u8]) -> Pen
     let mut pending = pen.pending + width;
     while 8 <= pending {
         pending -= 8;
-        octets[at] = octet_of(number, pending);
+        octets[at] = places::octet_in(number, pending);
         number = places::cut(number, 0, pending);
         at += 1;
     }
@@ -67,7 +59,7 @@ pub fn finish(pen: Pen, octets: &mut [u8])
     let pending = pen.pending;
     if 0 < pending {
         let at = pen.place.0;
-        octets[at] = octet_of(shifted(pen.number, 8 - pending), 0);
+        octets[at] = places::octet_in(shifted(pen.number, 8 - pending), 0);
     }
 }
 

@@ -1,8 +1,6 @@
 -- `stream::read_number` meets its contract. Assumes nothing.
 use mathlib.Core.Path.{_≡_}
-use denote.Ref.{now}
-use Rattle.format.specs.Bits.{numberAt}
-use Rattle.laws.specs.Bits.{number-below, bit-lt, number-read}
+use Prim.Native.Nat.{_+_, _*_, _%_}
 use native.Mathlib.Omega.{arith}
 use borrow.Author.Needs.{needs}
 use Rattle.stream.proofs.read_number.Statement.{statement}
@@ -11,37 +9,14 @@ use Rattle.stream.proofs.read_number.Tie as tie
 octet-of-requires : tie.Need-octet-of-requires
 octet-of-requires c κs = search needs
 
-gathered-requires : tie.Need-gathered-requires
-gathered-requires c κs = search needs
-
-sub-cut : tie.Need-sub-cut
-sub-cut c = search needs
-
-sub-cut-2 : tie.Need-sub-cut-2
-sub-cut-2 c = search needs
-
-cut-requires : tie.Need-cut-requires
-cut-requires c κs = search needs
-
-value : (c : tie.After-cut) → c .cut .result ≡ numberAt (now (c .before .before .before .before .before .args .octets)) (c .before .before .before .before .before .args .place .0) (c .before .before .before .before .before .args .width)
-value c =
-    let a = c .before .before .before .before .before .args in
-    cc (number-read (now (a .octets)) (a .place .0) (a .width) 5 (omega arith))
-
-cast-result : tie.Need-cast-result
-cast-result c = record { fits = rw (value c) (number-below (bit-lt 8 _) _ _ 32 (omega arith)) }
+read-in-octet-requires : tie.Need-read-in-octet-requires
+read-in-octet-requires c κs = search needs
 
 returns : tie.Need-returns
-returns c = value c
+returns c =
+    let a = c .before .before .before .before .args in
+    let e : c .before .before .octet-of .result .0 * 8 + a .place .0 % 8 ≡ a .place .0 = omega arith in
+    cc
 
 pub read-number-spec : {M : Type 1} → statement M
-read-number-spec =
-    tie.close
-    (tie.spec
-    octet-of-requires
-    gathered-requires
-    sub-cut
-    sub-cut-2
-    cut-requires
-    cast-result
-    returns)
+read-number-spec = tie.close (tie.spec octet-of-requires read-in-octet-requires returns)

@@ -11,8 +11,8 @@ sub-shifted c = search needs
 shifted-requires : tie.Need-shifted-requires
 shifted-requires c κs = (search ready-small, omega arith)
 
-octet-of-requires : tie.Need-octet-of-requires
-octet-of-requires c κs = search needs
+octet-in-requires : tie.Need-octet-in-requires
+octet-in-requires c κs = search needs
 
 slice-write-octets : tie.Need-slice-write-octets
 slice-write-octets c = search needs
@@ -32,7 +32,7 @@ finish-spec =
     (tie.spec
     sub-shifted
     shifted-requires
-    octet-of-requires
+    octet-in-requires
     slice-write-octets
     same-length
     returns

@@ -27,8 +27,8 @@ add-pending c = omega arith
 loop-holds : tie.Need-loop-holds Inv-loop μ-loop
 loop-holds c = search emitting-start
 
-octet-of-requires : tie.Need-octet-of-requires Inv-loop μ-loop
-octet-of-requires c κs = omega arith
+octet-in-requires : tie.Need-octet-in-requires Inv-loop μ-loop
+octet-in-requires c κs = omega arith
 
 slice-write-octets : tie.Need-slice-write-octets Inv-loop μ-loop
 slice-write-octets c = omega arith
@@ -61,7 +61,7 @@ put-spec =
     add-number
     add-pending
     loop-holds
-    octet-of-requires
+    octet-in-requires
     slice-write-octets
     cut-requires
     add-at

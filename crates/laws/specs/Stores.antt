@@ -1,0 +1,59 @@
+-- A store of some octets at a place, however many they are, and things that lie end to end in lent octets. Assumes nothing.
+use mathlib.Core.Path.{_≡_, refl, sym, ap, _∙_}
+use mathlib.Core.List.{List, [], _∷_, _++_, append-assoc, flatMap}
+use Prim.Native.Nat.{ℕ, zero, suc, _+_, _*_, _/_, _^_, _≤_, _<_}
+use native.Mathlib.Nat.{add-zero, add-suc, zero-add, suc-add, suc-mul, zero-mul, add-mul, pow-suc}
+use native.Mathlib.Omega.{arith}
+use lib.ListN.{length, set, length-append}
+use lib.Pow.{pow-add}
+use lib.Seq.{sets, sets-eq}
+use Rattle.format.specs.Lists.{listed, _over_}
+use Rattle.laws.specs.Lists.{length-listed, listed-more}
+
+-- ---- `sets`: elements stored one after another from a place on
+
+module _ {A : Type 0} where
+  -- one store, and the next one right behind it, are one
+  pub sets-append : (l : List A) (at : ℕ) (xs ys : List A) → sets (sets l at xs) (at + length xs) ys ≡ sets l at (xs ++ ys)
+  sets-append l at [] ys = rw (add-zero at)
+  sets-append l at (x ∷ xs) ys = rw (add-suc at (length xs), ← suc-add at (length xs)) (sets-append (set l at x) (suc at) xs ys)
+
+  -- a turn of a loop that stores f 0, f 1, .. from a place on
+  pub sets-more : (f : ℕ → A) (l : List A) (at i : ℕ) → set (sets l at (listed i f)) (at + i) (f i) ≡ sets l at (listed (i + 1) f)
+  sets-more f l at i =
+      rw (listed-more i f) (ap (λ (n : ℕ). set (sets l at (listed i f)) (at + n) (f i)) (sym (length-listed i f)) ∙ sets-append l at (listed i f) (f i ∷ []))
+
+  -- a store at the front
+  pub sets-front : (l xs : List A) → length xs ≤ length l → sets l 0 xs ≡ xs over l
+  sets-front l xs h = sets-eq xs l 0 (omega arith) ∙ rw (zero-add (length xs))
+
+  -- and one right behind what is there
+  pub sets-over : (l xs ys : List A) → length xs + length ys ≤ length l → sets (xs over l) (length xs) ys ≡ (xs ++ ys) over l
+  sets-over l xs ys h =
+      rw (← sets-front l xs (omega arith), ← zero-add (length xs)) (sets-append l 0 xs ys ∙ sets-front l (xs ++ ys) (omega (arith, length-append xs ys)))
+
+-- ---- things of one size, end to end
+
+module _ {A : Type 0} (octets : A → List ℕ) where
+  pub flat-append : (xs ys : List A) → flatMap octets (xs ++ ys) ≡ flatMap octets xs ++ flatMap octets ys
+  unfolding flatMap
+  flat-append [] ys = refl
+  flat-append (x ∷ xs) ys = ap (λ (l : List ℕ). octets x ++ l) (flat-append xs ys) ∙ sym (append-assoc (octets x) (flatMap octets xs) (flatMap octets ys))
+
+  pub length-flat : (size : ℕ) → ((x : A) → length (octets x) ≡ size) → (xs : List A) → length (flatMap octets xs) ≡ length xs * size
+  unfolding flatMap
+  length-flat size h [] = sym (zero-mul size)
+  length-flat size h (x ∷ xs) = length-append (octets x) (flatMap octets xs) ∙ omega (arith, h x, length-flat size h xs, suc-mul (length xs) size)
+
+  -- more of them, stored right behind those that are there
+  pub flat-over : (size : ℕ) → ((x : A) → length (octets x) ≡ size) → (l : List ℕ) (xs ys : List A) → (length xs + length ys) * size ≤ length l
+      → sets (flatMap octets xs over l) (length xs * size) (flatMap octets ys) ≡ flatMap octets (xs ++ ys) over l
+  flat-over size h l xs ys r =
+      rw (flat-append xs ys, ← length-flat size h xs)
+      (sets-over l (flatMap octets xs) (flatMap octets ys) (omega (arith, length-flat size h xs, length-flat size h ys, add-mul (length xs) (length ys) size)))
+
+-- ---- octets of a number
+
+pub octet-power : (n : ℕ) → 2 ^ (n * 8) ≡ 256 ^ n
+octet-power zero = refl
+octet-power (suc n) = rw (suc-mul n 8, pow-add 2 (n * 8) 8, octet-power n) (sym (pow-suc 256 n))

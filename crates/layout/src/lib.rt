@@ -1,0 +1,94 @@
+// Levels, numbers, points and groups as they lie in lent octets, all big-endian, thing after thing from the first octet on.
+ghost use mathlib.Core.Path.{_≡_};
+ghost use Prim.Native.Nat.{_+_, _*_, _<_, _≤_, _^_};
+ghost use lib.ListN.{length};
+ghost use lib.Seq.{sets};
+ghost use Rattle.format.specs.Bits.{numberAt};
+ghost use Rattle.format.specs.Layout.{bigEndian, inFours, levelSize, levelOctets, pointSize, pointOctets, markOf, heldBy, twosComplement, groupSize, groupNumbers};
+use format::DecodedValue;
+use format::Group;
+use format::OctetPlace;
+
+// A group's four numbers of four octets each.
+pub const GROUP_SIZE: usize = 16;
+
+// Stores x from a place on, in n octets.
+fn store(octets: &mut [u8], at: usize, x: u64, n: usize)
+    requires { ⌜ (n ≤ 8) × (at + n ≤ length (now octets)) ⌝ }
+    ensures { λ _. ⌜ now (octets .exit) ≡ sets (now (octets .entry)) at (bigEndian n x) ⌝ }
+{
+    let mut i = 0usize;
+    while i < n {
+        octets[at + i] = places::octet_in(x, (n - 1 - i) * 8);
+        i += 1;
+    }
+}
+
+// Level k.
+pub fn store_level(octets: &mut [u8], k: usize, level: u16)
+    requires { ⌜ (k + 1) * levelSize ≤ length (now octets) ⌝ }
+    ensures { λ _. ⌜ now (octets .exit) ≡ sets (now (octets .entry)) (k * levelSize) (levelOctets level) ⌝ }
+{
+    store(octets, k * 2, level as u64, 2);
+}
+
+// Number k of those that take four octets each.
+pub fn number_in(octets: &[u8], k: usize) -> u32
+    requires { ⌜ (k + 1) * 4 ≤ length (now octets) ⌝ }
+    ensures { λ r. ⌜ r ≡ numberAt (now (octets .entry)) (k * 32) 32 ⌝ }
+{
+    stream::read_in_octet(octets, OctetPlace(k * 4), 0, 32)
+}
+
+// "each of a group's four numbers take four octets": group k, four numbers from octet 16·k on.
+pub fn store_group(octets: &mut [u8], k: usize, group: Group)
+    requires { ⌜ (k + 1) * groupSize ≤ length (now octets) ⌝ }
+    ensures { λ _. ⌜ now (octets .exit) ≡ sets (now (octets .entry)) (k * groupSize) (inFours (groupNumbers group)) ⌝ }
+{
+    let at = k * GROUP_SIZE;
+    store(octets, at, group.start as u64, 4);
+    store(octets, at + 4, group.length as u64, 4);
+    store(octets, at + 8, group.least as u64, 4);
+    store(octets, at + 12, group.width as u64, 4);
+}
+
+fn mark_of(point: DecodedValue) -> u8
+    ensures { λ r. ⌜ r ≡ markOf point ⌝ }
+{
+    match point {
+        DecodedValue::Normal(_) => 0,
+        DecodedValue::Missing1 => 1,
+        DecodedValue::Missing2 => 2,
+    }
+}
+
+fn twos_complement(number: i64) -> u64
+    ensures { λ r. ⌜ r ≡ twosComplement number ⌝ }
+{
+    if number < 0 {
+        18446744073709551615 - ((!number) as u64)
+    } else {
+        number as u64
+    }
+}
+
+// "a missing point holds number 0", whose pattern is 0.
+fn pattern_of(point: DecodedValue) -> u64
+    ensures { λ r. ⌜ r ≡ twosComplement (heldBy point) ⌝ }
+{
+    match point {
+        DecodedValue::Normal(number) => twos_complement(number),
+        DecodedValue::Missing1 => 0,
+        DecodedValue::Missing2 => 0,
+    }
+}
+
+// Point k. The mark goes last: eight octets that are stored in a row become one store of the machine, nine do not.
+pub fn store_point(octets: &mut [u8], k: usize, point: DecodedValue)
+    requires { ⌜ (k + 1) * pointSize ≤ length (now octets) ⌝ }
+    ensures { λ _. ⌜ now (octets .exit) ≡ sets (now (octets .entry)) (k * pointSize) (pointOctets point) ⌝ }
+{
+    let at = k * 9;
+    store(octets, at + 1, pattern_of(point), 8);
+    octets[at] = mark_of(point);
+}
