@@ -47,6 +47,7 @@ pub record Exactly (b M : ℕ) (payload : List ℕ) (r : Run) (weight n : ℕ) (
 pub record More (b M : ℕ) (payload : List ℕ) (r : Run) (n : ℕ) (next : Run) : Type 0 where
   pub within : Within b M payload next
   pub ahead : placeOf r < placeOf next
+  pub few : n ≤ cap
   pub exact : (weight : ℕ) → r .weight ≡ min weight cap → Exactly b M payload r weight n next
 
 -- what a turn tells

@@ -27,6 +27,13 @@ fn capped(x: usize) -> usize
     x
 }
 
+fn capped_product(x: usize, y: usize) -> usize
+    requires { ⌜ (x < 2 ^ 32) × (y ≤ cap) ⌝ }
+    ensures { λ r. ⌜ r ≡ min (x * y) cap ⌝ }
+{
+    capped(x * y)
+}
+
 // Where the next code stands, the last level, and the weight of the next repeat code.
 pub struct Run {
     pub octet: OctetPlace,
@@ -66,12 +73,12 @@ fn taken(bits: usize, greatest: usize, payload: &[u8], run: Run) -> Turn
     }
     let base = power_below(bits) - greatest;
     Turn::Points(
-        capped((code - greatest - 1) * run.weight),
+        capped_product(code - greatest - 1, run.weight),
         Run {
             octet,
             bit: end % 8,
             level: run.level,
-            weight: capped(run.weight * base),
+            weight: capped_product(base, run.weight),
         },
     )
 }
@@ -153,11 +160,11 @@ fn repeats_first(bits: usize, greatest: usize, payload: &[u8]) -> bool
 }
 
 // The levels of a run-length payload, in lent octets, two octets each.
-pub fn run_length(bits: u8, max_level: u16, declared: u32, payload: &[u8], levels: &mut [u8]) -> Unrolled
-    ensures { λ r. ⌜ left r (now (levels .exit)) ≡ runLength bits max_level declared (now (payload .entry)) (now (levels .entry)) ⌝ }
+pub fn run_length(bits: u8, greatest: u16, declared: u32, payload: &[u8], levels: &mut [u8]) -> Unrolled
+    ensures { λ r. ⌜ left r (now (levels .exit)) ≡ runLength bits greatest declared (now (payload .entry)) (now (levels .entry)) ⌝ }
 {
     let b = bits as usize;
-    let greatest = max_level as usize;
+    let top = greatest as usize;
     let count = declared as usize;
     if b == 0 {
         return Unrolled::Refused(Refusal::Width);
@@ -165,13 +172,13 @@ pub fn run_length(bits: u8, max_level: u16, declared: u32, payload: &[u8], level
     if 15 < b {
         return Unrolled::Refused(Refusal::Width);
     }
-    if power_below(b) < greatest {
+    if power_below(b) < top {
         return Unrolled::Refused(Refusal::Width);
     }
-    if repeats_first(b, greatest, payload) {
+    if repeats_first(b, top, payload) {
         return Unrolled::Refused(Refusal::Repeat);
     }
-    if counted(b, greatest, payload) != count {
+    if counted(b, top, payload) != count {
         return Unrolled::Refused(Refusal::Points);
     }
     if 4194304 < count {
@@ -180,6 +187,6 @@ pub fn run_length(bits: u8, max_level: u16, declared: u32, payload: &[u8], level
     if levels.len() / 2 < count {
         return Unrolled::Refused(Refusal::Room);
     }
-    store(b, greatest, payload, levels);
+    store(b, top, payload, levels);
     Unrolled::Levels(declared)
 }

@@ -1,17 +1,15 @@
 -- `run_length::repeats_first` meets its contract. Assumes nothing.
 use native.Mathlib.Omega.{arith}
+use Rattle.run_length.proofs.Codes.{first-none, first-is}
 use borrow.Author.Needs.{needs}
 use Rattle.run_length.proofs.repeats_first.Statement.{statement}
 use Rattle.run_length.proofs.repeats_first.Tie as tie
-use Rattle.run_length.proofs.repeats_first.Reads as reads
-use Rattle.run_length.proofs.repeats_first.Lts as lts
-use Rattle.stream.proofs.read_number.Reads as read-number-reads
 
 add-if1 : tie.Need-add-if1
 add-if1 c = search needs
 
 returns : tie.Need-returns
-returns c = ?
+returns c = first-none _ _ _ (omega arith) (omega arith)
 
 read-number-requires : tie.Need-read-number-requires
 read-number-requires c κs = search needs
@@ -20,7 +18,7 @@ cast-result : tie.Need-cast-result
 cast-result c = search needs
 
 returns-2 : tie.Need-returns-2
-returns-2 c = ?
+returns-2 c = rw (c .read-number .ensures) (first-is _ _ _ (omega arith) (omega arith))
 
 pub repeats-first-spec : {M : Type 1} → statement M
 repeats-first-spec =

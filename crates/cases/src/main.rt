@@ -1,0 +1,51 @@
+// Document 01's cases that are run, through the code as it is compiled. What each line must be stands in `stdout`.
+use libc::STDOUT_FILENO;
+
+fn show(number: u64) {
+    io::write_all(STDOUT_FILENO, b" ");
+    io::print_decimal(STDOUT_FILENO, number);
+}
+
+fn wide(x: u8) -> u64 {
+    x as u64
+}
+
+fn show_levels(octets: &[u8]) {
+    let mut i = 0usize;
+    while i < octets.len() {
+        if i + 1 < octets.len() {
+            show(wide(octets[i]) * 256 + wide(octets[i + 1]));
+        }
+        i += 1;
+        if i < octets.len() {
+            i += 1;
+        }
+    }
+}
+
+fn unroll(bits: u8, max_level: u16, declared: u32, payload: &[u8], levels: &mut [u8]) {
+    let number = cleatmow::cleatmow_run_length(bits, max_level, declared, payload, levels);
+    io::write_all(STDOUT_FILENO, b"run-length:");
+    show(number as u64);
+    io::write_all(STDOUT_FILENO, b";");
+    show_levels(levels);
+    io::write_all(STDOUT_FILENO, b"\n");
+}
+
+fn main() {
+    let mut five = [255u8; 10];
+    unroll(4, 9, 5, b"\x3C\x50", &mut five);
+    let mut four = [255u8; 8];
+    unroll(4, 9, 4, b"\x3C\x50", &mut four);
+    let mut ten = [255u8; 20];
+    unroll(4, 9, 10, b"\x3C\xB5", &mut ten);
+    let mut nine = [255u8; 18];
+    unroll(4, 9, 9, b"\x3C\xB5", &mut nine);
+    let mut none = [255u8; 4];
+    unroll(0, 0, 0, b"", &mut none);
+    unroll(15, 32767, 0, b"", &mut none);
+    unroll(16, 0, 0, b"", &mut none);
+    unroll(1, 2, 0, b"", &mut none);
+    unroll(2, 1, 1, b"\x80", &mut none);
+    unroll(2, 1, 2, b"\x1F\xFF", &mut none);
+}

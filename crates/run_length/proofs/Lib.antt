@@ -1,0 +1,4 @@
+pub mod Caps
+pub mod Codes
+pub mod Turns
+pub mod Passes

@@ -1,0 +1,81 @@
+-- `run_length::run_length` meets its contract. Assumes nothing.
+use mathlib.Core.Path.{_≡_, sym, ap, _∙_}
+use mathlib.Core.Bool.{false}
+use denote.Ref.{now}
+use Rattle.format.specs.Refusals.{left}
+use Rattle.format.specs.RunLength.{codesIn, repeatsFirst, runLength}
+use Rattle.format.specs.declared.Unrolled.the-variants as unrolled
+use Rattle.format.specs.declared.Refusal.the-variants.{Width, Repeat, Points, Room}
+use Rattle.laws.specs.First.{decides, clears, tests}
+use native.Mathlib.Omega.{arith}
+use borrow.Author.Needs.{needs}
+use Rattle.run_length.proofs.run_length.Statement.{statement}
+use Rattle.run_length.proofs.run_length.Tie as tie
+
+returns : tie.Need-returns
+unfolding runLength
+returns c = decides _ Width _ _ (omega (arith, tests))
+
+returns-2 : tie.Need-returns-2
+unfolding runLength
+returns-2 c = decides _ Width _ _ (omega (arith, tests))
+
+power-below-requires : tie.Need-power-below-requires
+power-below-requires c κs = search needs
+
+returns-3 : tie.Need-returns-3
+unfolding runLength
+returns-3 c = decides _ Width _ _ (omega (arith, tests))
+
+repeats-first-requires : tie.Need-repeats-first-requires
+repeats-first-requires c κs = search needs
+
+returns-4 : tie.Need-returns-4
+unfolding runLength
+returns-4 c = let first = sym (c .before .repeats-first .ensures) ∙ c .if4 .taken in decides _ Repeat _ _ (omega (arith, tests))
+
+not-first : (c : tie.Else4) → repeatsFirst (c .before .before .before .before .before .before .before .before .args .greatest) (codesIn (c .before .before .before .before .before .before .before .before .args .bits) (now (c .before .before .before .before .before .before .before .before .args .payload))) ≡ false
+not-first c = sym (c .before .repeats-first .ensures) ∙ c .if4 .left
+
+counted-requires : tie.Need-counted-requires
+counted-requires c κs = search needs
+
+returns-5 : tie.Need-returns-5
+unfolding runLength
+returns-5 c = let fresh = not-first (c .before .before) in decides _ Points _ _ (omega (arith, tests))
+
+returns-6 : tie.Need-returns-6
+unfolding runLength
+returns-6 c = let fresh = not-first (c .before .before .before) in decides _ Points _ _ (omega (arith, tests))
+
+returns-7 : tie.Need-returns-7
+unfolding runLength
+returns-7 c = let fresh = not-first (c .before .before .before .before) in decides _ Room _ _ (omega (arith, tests))
+
+store-requires : tie.Need-store-requires
+store-requires c κs = search needs
+
+same-length : tie.Need-same-length
+same-length c = search needs
+
+returns-8 : tie.Need-returns-8
+unfolding runLength
+returns-8 c = let fresh = not-first (c .before .before .before .before .before .before .before .before) in ap (left (unrolled.Levels _)) (c .before .before .store .ensures) ∙ clears _ _ _ (omega (arith, tests))
+
+pub run-length-spec : {M : Type 1} → statement M
+run-length-spec =
+    tie.close
+    (tie.spec
+    returns
+    returns-2
+    power-below-requires
+    returns-3
+    repeats-first-requires
+    returns-4
+    counted-requires
+    returns-5
+    returns-6
+    returns-7
+    store-requires
+    same-length
+    returns-8)
