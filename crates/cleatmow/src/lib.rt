@@ -29,7 +29,13 @@ fn number_of(refusal: Refusal) -> u32
 
 // Template 7.200: the levels of a payload, two octets each.
 #[no_mangle]
-pub extern "C" fn cleatmow_run_length(bits: u8, greatest: u16, declared: u32, payload: &[u8], levels: &mut [u8]) -> u32
+pub extern "C" fn cleatmow_run_length(
+    bits: u8,
+    greatest: u16,
+    declared: u32,
+    payload: &[u8],
+    levels: &mut [u8],
+) -> u32
     ensures { λ r. ⌜ left r (now (levels .exit)) ≡ called unrolledNumber (runLength bits greatest declared (now (payload .entry)) (now (levels .entry))) ⌝ }
 {
     match run_length::run_length(bits, greatest, declared, payload, levels) {

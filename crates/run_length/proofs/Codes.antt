@@ -30,8 +30,8 @@ module _ (b : ℕ) (payload : List ℕ) (p : ℕ) (some : 0 < b) where
       let left : ℕ = length payload * 8 - p in
       let n : ℕ = (length payload * 8 - (p + b)) / b in
       let e : left / b ≡ suc n =
-          div-eq-sub-div {m = b} {n = left} some (omega arith) ∙ add-one ((left - b) / b)
-          ∙ ap (λ (m : ℕ). suc (m / b)) (omega arith) in
+      div-eq-sub-div {m = b} {n = left} some (omega arith) ∙ add-one ((left - b) / b)
+      ∙ ap (λ (m : ℕ). suc (m / b)) (omega arith) in
       rw e
       (ap₂ (λ (x : ℕ) (l : List ℕ). x ∷ l) (rw (zero-mul b, add-zero p))
       (listed-ext n (λ i. numberAt payload (p + suc i * b) b) (λ i. numberAt payload (p + b + i * b) b)

@@ -160,7 +160,13 @@ fn repeats_first(bits: usize, greatest: usize, payload: &[u8]) -> bool
 }
 
 // The levels of a run-length payload, in lent octets, two octets each.
-pub fn run_length(bits: u8, greatest: u16, declared: u32, payload: &[u8], levels: &mut [u8]) -> Unrolled
+pub fn run_length(
+    bits: u8,
+    greatest: u16,
+    declared: u32,
+    payload: &[u8],
+    levels: &mut [u8],
+) -> Unrolled
     ensures { λ r. ⌜ left r (now (levels .exit)) ≡ runLength bits greatest declared (now (payload .entry)) (now (levels .entry)) ⌝ }
 {
     let b = bits as usize;

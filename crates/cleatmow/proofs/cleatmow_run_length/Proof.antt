@@ -1,12 +1,9 @@
 -- `cleatmow::cleatmow_run_length` meets its contract. Assumes nothing.
+use Rattle.cleatmow.proofs.Calls.{unrolled-done, unrolled-refused}
 use native.Mathlib.Omega.{arith}
 use borrow.Author.Needs.{needs}
 use Rattle.cleatmow.proofs.cleatmow_run_length.Statement.{statement}
 use Rattle.cleatmow.proofs.cleatmow_run_length.Tie as tie
-use Rattle.cleatmow.proofs.cleatmow_run_length.Reads as reads
-use Rattle.cleatmow.proofs.cleatmow_run_length.Lts as lts
-use Rattle.cleatmow.proofs.number_of.Reads as number-of-reads
-use Rattle.run_length.proofs.run_length.Reads as run-length-reads
 
 run-length-requires : tie.Need-run-length-requires
 run-length-requires c κs = search needs
@@ -24,13 +21,13 @@ same-length : tie.Need-same-length
 same-length c = search needs
 
 returns : tie.Need-returns
-returns c = ?
+returns c = search (unrolled-done, unrolled-refused)
 
 same-length-2 : tie.Need-same-length-2
 same-length-2 c = search needs
 
 returns-2 : tie.Need-returns-2
-returns-2 c = ?
+returns-2 c = search (unrolled-done, unrolled-refused)
 
 pub cleatmow-run-length-spec : {M : Type 1} → statement M
 cleatmow-run-length-spec =

@@ -1,0 +1,20 @@
+-- A call answers its operation's number and leaves its buffer. Assumes nothing.
+use mathlib.Core.Path.{_≡_, sym, ap, _∙_}
+use mathlib.Core.List.{List}
+use Prim.Native.Nat.{ℕ}
+use Rattle.format.specs.Refusals.{Left, left, refusalNumber, unrolledNumber}
+use Rattle.format.specs.declared.Refusal.{Refusal}
+use Rattle.format.specs.declared.Unrolled.{Unrolled}
+use Rattle.format.specs.declared.Unrolled.the-variants as unrolled
+use Rattle.cleatmow.specs.Calls.{called}
+
+called-is : {Answer : Type 0} (number : Answer → ℕ) (outcome : Left Answer) {answer : Answer} {buffer : List ℕ} {n : ℕ}
+    → left answer buffer ≡ outcome → n ≡ number answer → left n buffer ≡ called number outcome
+called-is number outcome e en = rw (← e, en)
+
+module _ (outcome : Left Unrolled) {answer : Unrolled} {buffer : List ℕ} (e : left answer buffer ≡ outcome) where
+  pub unrolled-done : {count : ℕ} → answer ≡ unrolled.Levels count → left 0 buffer ≡ called unrolledNumber outcome
+  unrolled-done d = called-is unrolledNumber outcome e (ap unrolledNumber (sym d))
+
+  pub unrolled-refused : {r : Refusal} {n : ℕ} → answer ≡ unrolled.Refused r → n ≡ refusalNumber r → left n buffer ≡ called unrolledNumber outcome
+  unrolled-refused d en = called-is unrolledNumber outcome e (en ∙ ap unrolledNumber (sym d))
