@@ -1,0 +1,31 @@
+//! The C calls, as include/cleatmow.h declares them, each over slices. The only unsafe code of this crate.
+
+mod c {
+    extern "C" {
+        pub fn cleatmow_run_length(
+            bits: u8,
+            max_level: u16,
+            declared: u32,
+            payload: *const u8,
+            payload_len: usize,
+            levels: *mut u8,
+            levels_len: usize,
+        ) -> u32;
+    }
+}
+
+pub fn run_length(bits: u8, max_level: u16, declared: u32, payload: &[u8], levels: &mut [u8]) -> u32 {
+    // SAFETY: each pointer and length is that of a slice, so as many octets stand behind it; `levels` is borrowed for
+    // writing, so it overlaps nothing and nobody else uses it. The call keeps neither pointer.
+    unsafe {
+        c::cleatmow_run_length(
+            bits,
+            max_level,
+            declared,
+            payload.as_ptr(),
+            payload.len(),
+            levels.as_mut_ptr(),
+            levels.len(),
+        )
+    }
+}

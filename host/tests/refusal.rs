@@ -1,0 +1,53 @@
+//! The refusals' numbers and sentences, and the constants that the C header repeats.
+
+use cleatmow::{Refusal, LEVEL_OCTETS, MOST_POINTS};
+use std::collections::HashSet;
+use std::error::Error;
+
+const HEADER: &str = include_str!("../../include/cleatmow.h");
+
+/// All rows of document 01's table.
+fn table() -> impl Iterator<Item = (u32, Refusal)> {
+    (1..=13).map(|number| (number, Refusal::from_number(number).expect("a row")))
+}
+
+#[test]
+fn numbers_are_the_tables() {
+    assert!(table().all(|(number, refusal)| refusal.number() == number));
+    for number in [0, 14, 255, 256 + 9, u32::MAX] {
+        assert_eq!(Refusal::from_number(number), None);
+    }
+    assert_eq!((Refusal::Splitting.number(), Refusal::Numbers.number()), (1, 13));
+    assert_eq!((Refusal::Width.number(), Refusal::Repeat.number()), (5, 11));
+    assert_eq!((Refusal::Points.number(), Refusal::Room.number()), (9, 10));
+}
+
+#[test]
+fn each_has_a_sentence_of_its_own_for_the_log() {
+    let mut sentences = HashSet::new();
+    for (number, refusal) in table() {
+        let error: Box<dyn Error> = refusal.into();
+        let line = error.to_string();
+        let sentence = line.strip_prefix(&format!("refusal {number}: "));
+        let sentence = sentence.expect("the number comes first").to_string();
+        assert!(!sentence.contains(['\n', '\t']) && !sentence.contains("  "), "{line}");
+        assert!(sentences.insert(sentence), "said twice: {line}");
+    }
+}
+
+#[test]
+fn the_header_says_the_same() {
+    let has = |line: String| HEADER.lines().any(|read| read.trim_matches([' ', ',']) == line);
+    for (number, refusal) in table() {
+        let mut name = String::from("CLEATMOW_REFUSAL");
+        for letter in format!("{refusal:?}").chars() {
+            if letter.is_uppercase() {
+                name.push('_');
+            }
+            name.push(letter.to_ascii_uppercase());
+        }
+        assert!(has(format!("{name} = {number}")), "{name}");
+    }
+    assert!(has(format!("#define CLEATMOW_MOST_POINTS {MOST_POINTS}")));
+    assert!(has(format!("#define CLEATMOW_LEVEL_OCTETS {LEVEL_OCTETS}")));
+}

@@ -1,0 +1,360 @@
+//! Run-length through the C call, against document 01: its cases, its limits, lent buffers, and a plain reference.
+
+use cleatmow::maps::{rain, Numbers};
+use cleatmow::{run_length, run_length_into, Refusal, LEVEL_OCTETS, MOST_POINTS};
+
+/// What a call is given beside the lent buffer: b, M, the declared count and the payload.
+type Input<'a> = (u8, u16, u32, &'a [u8]);
+
+/// The runs of a payload, each a level and its length, or refusal 5 or 11. Written as document 01 reads, without care
+/// for speed. Weights and lengths stop at the greatest number of 128 bits, far above any count that is accepted.
+fn runs(bits: u8, max_level: u16, payload: &[u8]) -> Result<Vec<(u16, u128)>, u32> {
+    if !(1..=15).contains(&bits) || u32::from(max_level) > (1 << bits) - 1 {
+        return Err(5);
+    }
+    let string: Vec<u16> =
+        payload.iter().flat_map(|octet| (0..8).rev().map(move |place| u16::from(octet >> place & 1))).collect();
+    let base = (1_u128 << bits) - 1 - u128::from(max_level);
+    let mut runs: Vec<(u16, u128)> = Vec::new();
+    let mut weight = 1_u128;
+    for code in string.chunks_exact(usize::from(bits)) {
+        let code = code.iter().fold(0, |code, bit| 2 * code + bit);
+        if code <= max_level {
+            runs.push((code, 1));
+            weight = 1;
+        } else {
+            let (_, length) = runs.last_mut().ok_or(11_u32)?;
+            let more = u128::from(code - max_level - 1).saturating_mul(weight);
+            *length = length.saturating_add(more);
+            weight = weight.saturating_mul(base);
+        }
+    }
+    Ok(runs)
+}
+
+fn points(runs: &[(u16, u128)]) -> u128 {
+    runs.iter().fold(0, |sum, (_, length)| sum.saturating_add(*length))
+}
+
+/// The answer, and the buffer as it is left.
+fn reference((bits, max_level, declared, payload): Input, lent: &[u8]) -> (u32, Vec<u8>) {
+    let mut left = lent.to_vec();
+    let runs = match runs(bits, max_level, payload) {
+        Ok(runs) => runs,
+        Err(number) => return (number, left),
+    };
+    if points(&runs) != u128::from(declared) || declared > 4_194_304 {
+        return (9, left);
+    }
+    if lent.len() / 2 < declared as usize {
+        return (10, left);
+    }
+    let levels = runs.iter().flat_map(|(level, length)| vec![*level; *length as usize]);
+    for (place, level) in left.chunks_exact_mut(2).zip(levels) {
+        place.copy_from_slice(&level.to_be_bytes());
+    }
+    (0, left)
+}
+
+/// Makes the call on `len` lent octets in the middle of more, over a pattern and over its complement, so that no stray
+/// store goes unseen; holds the answer and every octet, lent or around, to the reference's.
+fn compare(input: Input, len: usize) -> u32 {
+    const GUARD: usize = 16;
+    let (bits, max_level, declared, payload) = input;
+    let mut answer = 0;
+    for flip in [0, 0xFF] {
+        let mut all: Vec<u8> = (0..len + 2 * GUARD).map(|place| (place as u8).wrapping_mul(37) ^ flip).collect();
+        let lent = GUARD..GUARD + len;
+        let mut expected = all.clone();
+        let left;
+        (answer, left) = reference(input, &all[lent.clone()]);
+        expected[lent.clone()].copy_from_slice(&left);
+        let called = run_length_into(bits, max_level, declared, payload, &mut all[lent]);
+        let number = called.map_or_else(Refusal::number, |()| 0);
+        assert!(
+            (number, &all) == (answer, &expected),
+            "b {bits}, M {max_level}, declared {declared}, {payload:02X?}, {len} octets lent: \
+             {number} for {answer},\n{all:02X?} for\n{expected:02X?}"
+        );
+    }
+    answer
+}
+
+/// Codes of `bits` bits end to end, and zero bits to the end of the last octet.
+fn coded(bits: u8, codes: &[u16]) -> Vec<u8> {
+    let mut octets = vec![0; (codes.len() * usize::from(bits)).div_ceil(8)];
+    for (i, code) in codes.iter().enumerate() {
+        for bit in 0..usize::from(bits) {
+            let place = i * usize::from(bits) + bit;
+            octets[place / 8] |= ((code >> (usize::from(bits) - 1 - bit) & 1) as u8) << (7 - place % 8);
+        }
+    }
+    octets
+}
+
+/// The same with zero digits up to the end of an octet. They add no point, where zero bits would be a level.
+fn whole(bits: u8, max_level: u16, codes: &[u16]) -> Vec<u8> {
+    let mut codes = codes.to_vec();
+    codes.resize(codes.len().next_multiple_of(8), max_level + 1);
+    coded(bits, &codes)
+}
+
+/// The codes of one run: the level, and the run less one in digits of the base, least first. The base is above 1.
+fn run(bits: u8, max_level: u16, level: u16, run: u32) -> Vec<u16> {
+    let base = (1 << bits) - 1 - u32::from(max_level);
+    let mut codes = vec![level];
+    let mut more = run - 1;
+    while more > 0 {
+        codes.push((u32::from(max_level) + 1 + more % base) as u16);
+        more /= base;
+    }
+    codes
+}
+
+#[test]
+fn cases_of_document_01() {
+    assert_eq!(run_length(4, 9, 10, &[0x3C, 0xB5]), Ok(vec![3, 3, 3, 3, 3, 3, 3, 3, 3, 5]));
+    assert_eq!(run_length(4, 9, 9, &[0x3C, 0xB5]), Err(Refusal::Points));
+    assert_eq!(run_length(4, 9, 5, &[0x3C, 0x50]), Ok(vec![3, 3, 3, 5, 0]));
+    assert_eq!(run_length(4, 9, 4, &[0x3C, 0x50]), Err(Refusal::Points));
+}
+
+#[test]
+fn bits_and_greatest_level_have_limits() {
+    for bits in [0, 16, 17, 32, 64, 255] {
+        for max_level in [0, 1, 9, u16::MAX] {
+            assert_eq!(run_length(bits, max_level, 0, &[]), Err(Refusal::Width));
+        }
+    }
+    for bits in 1..=15 {
+        let greatest = (1 << bits) - 1;
+        assert_eq!(run_length(bits, greatest, 0, &[]), Ok(vec![]));
+        assert_eq!(run_length(bits, greatest + 1, 0, &[]), Err(Refusal::Width));
+        assert_eq!(run_length(bits, u16::MAX, 0, &[]), Err(Refusal::Width));
+        // M = 2^b − 1: base 0, and every code is a level.
+        let every = coded(bits, &[greatest, 0, greatest, 1]);
+        let codes = (every.len() * 8 / usize::from(bits)) as u32;
+        let levels = run_length(bits, greatest, codes, &every).unwrap();
+        assert_eq!(levels[..4], [greatest, 0, greatest, 1]);
+        // M = 2^b − 2: base 1, and the one repeat code adds no point, however often it stands.
+        let repeats = coded(bits, &[0, greatest, greatest, greatest, 0, greatest, 0, greatest]);
+        assert_eq!(run_length(bits, greatest - 1, 3, &repeats), Ok(vec![0; 3]));
+    }
+    assert_eq!(run_length(1, 1, 8, &[0xA5]), Ok(vec![1, 0, 1, 0, 0, 1, 0, 1]));
+    assert_eq!(run_length(15, 32_767, 1, &[0xFF, 0xFF]), Ok(vec![32_767]));
+    // The greatest digit there is.
+    assert_eq!(run_length(15, 0, 32_767, &[0, 1, 0xFF, 0xFD]), Ok(vec![0; 32_767]));
+}
+
+#[test]
+fn no_whole_code_is_no_point() {
+    for bits in 1..=15 {
+        assert_eq!(run_length(bits, 0, 0, &[]), Ok(vec![]));
+        assert_eq!(run_length(bits, 0, 1, &[]), Err(Refusal::Points));
+    }
+    // Seven bits short of a code: not even a repeat at the front is read.
+    assert_eq!(run_length(15, 0, 0, &[0xFF]), Ok(vec![]));
+    assert_eq!(run_length(15, 0, 1, &[0xFF]), Err(Refusal::Points));
+    // Two codes of three bits, and two bits that are ignored, whatever they are.
+    for tail in 0..4 {
+        assert_eq!(run_length(3, 7, 2, &[0b1010_1000 | tail]), Ok(vec![5, 2]));
+    }
+}
+
+#[test]
+fn the_declared_count_has_a_limit() {
+    for (bits, max_level) in [(2, 1), (4, 9), (8, 200), (15, 1)] {
+        let most = whole(bits, max_level, &run(bits, max_level, 1, MOST_POINTS));
+        let levels = run_length(bits, max_level, MOST_POINTS, &most).unwrap();
+        assert!(levels.len() == MOST_POINTS as usize && levels.iter().all(|level| *level == 1));
+        // One more point, well coded, is refused for the count itself: by either form, and with room for all.
+        let above = whole(bits, max_level, &run(bits, max_level, 1, MOST_POINTS + 1));
+        assert_eq!(run_length(bits, max_level, MOST_POINTS + 1, &above), Err(Refusal::Points));
+        let mut room = vec![7; (MOST_POINTS as usize + 1) * LEVEL_OCTETS];
+        let into = run_length_into(bits, max_level, MOST_POINTS + 1, &above, &mut room);
+        assert_eq!(into, Err(Refusal::Points));
+        assert!(room.iter().all(|octet| *octet == 7));
+    }
+    // The same limit without a repeat code.
+    let mut every = vec![0x5A; MOST_POINTS as usize / 8];
+    let levels = run_length(1, 1, MOST_POINTS, &every).unwrap();
+    assert!(levels.chunks(8).all(|octet| octet == [0, 1, 0, 1, 1, 0, 1, 0]));
+    every.push(0x5A);
+    assert_eq!(run_length(1, 1, MOST_POINTS + 8, &every), Err(Refusal::Points));
+}
+
+/// Zero digits raise the weight without end. Where nothing is counted by it, that does not matter; where something is,
+/// the count must not come round to a small one at 2^32 or 2^64 (powers of the first bases), nor stop at the limit.
+#[test]
+fn weights_grow_without_end() {
+    let bases = [(2, 1), (3, 3), (5, 15), (9, 255), (4, 9), (8, 200), (15, 0)];
+    for (bits, max_level) in bases {
+        let coded = |codes: &[u16]| whole(bits, max_level, codes);
+        let (zero, one) = (max_level + 1, max_level + 2);
+        for zeros in (0..140).chain([1_000, 100_000]) {
+            let mut codes = vec![zero; zeros + 1];
+            codes[0] = 0;
+            assert_eq!(run_length(bits, max_level, 1, &coded(&codes)), Ok(vec![0]));
+            // A level after them starts at weight 1 again.
+            let again = coded(&[&codes[..], &[0, one]].concat());
+            assert_eq!(run_length(bits, max_level, 3, &again), Ok(vec![0; 3]));
+            // Now the weight counts, once and twice. With nothing lent the answer is 10 for the right count, or 9.
+            codes.push(one);
+            for payload in [coded(&codes), coded(&codes.repeat(2))] {
+                let exact = points(&runs(bits, max_level, &payload).unwrap());
+                for declared in [exact as u32, 1, MOST_POINTS] {
+                    compare((bits, max_level, declared, &payload), 0);
+                }
+            }
+        }
+    }
+}
+
+/// "Run-length: 5, 11, 9, 10.": each set of faults at once gives the first of them.
+#[test]
+fn refusals_come_in_their_order() {
+    for faults in 0..16 {
+        let (width, repeat, points, room) = (faults & 1 > 0, faults & 2 > 0, faults & 4 > 0, faults & 8 > 0);
+        let payload: &[u8] = if repeat { &[0xC3, 0x50] } else { &[0x3C, 0x50] };
+        let mut declareds = vec![5];
+        if points {
+            declareds = vec![0, 4, 6, MOST_POINTS, MOST_POINTS + 1, u32::MAX];
+        }
+        let mut widths = vec![(4, 9)];
+        if width {
+            widths = vec![(0, 9), (16, 9), (4, 16)];
+        }
+        for declared in declareds {
+            for (bits, max_level) in &widths {
+                let expected = match (width, repeat, points, room) {
+                    (true, ..) => 5,
+                    (_, true, ..) => 11,
+                    (_, _, true, _) => 9,
+                    (.., true) => 10,
+                    _ => 0,
+                };
+                let input = (*bits, *max_level, declared, payload);
+                for len in if room { [0, 9] } else { [10, 12] } {
+                    assert_eq!(compare(input, len), expected, "{input:?} {len}");
+                }
+            }
+        }
+    }
+}
+
+#[test]
+fn lent_buffers_of_every_size() {
+    let wide = coded(9, &[299, 303, 0, 300]);
+    let inputs: [(Input, u32); 9] = [
+        ((4, 9, 0, &[]), 0),
+        ((15, 32_767, 1, &[0xFF, 0xFE]), 0),
+        ((4, 9, 5, &[0x3C, 0x50]), 0),
+        ((4, 9, 10, &[0x3C, 0xB5]), 0),
+        ((9, 300, 5, &wide), 0),
+        ((4, 9, 9, &[0x3C, 0xB5]), 9),
+        ((4, 9, 5, &[0xC3, 0x50]), 11),
+        ((4, 16, 5, &[0x3C, 0x50]), 5),
+        ((0, 0, 5, &[0x3C, 0x50]), 5),
+    ];
+    for (input, answer) in inputs {
+        let right = input.2 as usize * LEVEL_OCTETS;
+        for len in 0..=right + 3 {
+            let expected = if answer == 0 && len < right { 10 } else { answer };
+            assert_eq!(compare(input, len), expected, "{input:?} {len}");
+        }
+    }
+}
+
+#[test]
+fn the_sample_map_is_what_it_says() {
+    for points in [1, 2, 1_000, 100_000, 1_000_000] {
+        let map = rain(points);
+        assert_eq!((map.declared, map.levels.len()), (points, points as usize));
+        let levels = run_length(map.bits, map.max_level, map.declared, &map.payload);
+        assert!(levels.as_ref() == Ok(&map.levels), "{points} points");
+    }
+    let map = rain(1_000_000);
+    let runs: Vec<usize> = map.levels.chunk_by(u16::eq).map(<[u16]>::len).collect();
+    let ones = runs.iter().filter(|run| **run == 1).count();
+    assert!(ones * 2 > runs.len() && runs.iter().any(|run| *run > 55 * 55));
+    assert_eq!(map.levels.iter().max(), Some(&200));
+}
+
+#[test]
+fn one_octet_in_full() {
+    for octet in 0..=255 {
+        for bits in 1..=8 {
+            for max_level in 0..1 << bits {
+                let points = runs(bits, max_level, &[octet]).map_or(0, |runs| points(&runs)) as u32;
+                compare((bits, max_level, points, &[octet]), 64);
+                compare((bits, max_level, points + 1, &[octet]), 64);
+            }
+        }
+    }
+}
+
+/// A map with runs, well coded, for any base.
+fn good(numbers: &mut Numbers, bits: u8, max_level: u16) -> Vec<u8> {
+    let base = (1_u32 << bits) - 1 - u32::from(max_level);
+    let mut codes = Vec::new();
+    for _ in 0..1 + numbers.below(6) {
+        let level = numbers.below(u64::from(max_level) + 1) as u16;
+        let longest = 1 << numbers.below(if base < 2 { 1 } else { 7 });
+        let length = 1 + numbers.below(longest) as u32;
+        codes.extend(run(bits, max_level, level, length));
+    }
+    coded(bits, &codes)
+}
+
+#[test]
+fn equal_to_the_reference_on_inputs_by_chance() {
+    const INPUTS: u32 = 300_000;
+    let mut numbers = Numbers::new(1);
+    let mut answers = [0_u32; 14];
+    for _ in 0..INPUTS {
+        let bits = if numbers.below(50) == 0 { numbers.below(18) } else { 1 + numbers.below(15) } as u8;
+        let greatest = (1_u64 << bits) - 1;
+        let max_level = match numbers.below(16) {
+            0 => greatest + numbers.below(3),
+            1 => greatest.saturating_sub(1),
+            2..=7 => greatest / 2 + numbers.below(greatest / 2 + 1),
+            _ => numbers.below(greatest + 1),
+        } as u16;
+        let mut payload = if numbers.below(4) == 0 || !(1..=15).contains(&bits) || u64::from(max_level) > greatest {
+            (0..numbers.below(13)).map(|_| numbers.any() as u8).collect()
+        } else {
+            good(&mut numbers, bits, max_level)
+        };
+        for _ in 0..numbers.below(6).saturating_sub(3) {
+            damage(&mut numbers, &mut payload);
+        }
+        let points = runs(bits, max_level, &payload).map_or(0, |runs| points(&runs));
+        let points = if points > 1_000 { 0 } else { points as u32 };
+        let declared = match numbers.below(8) {
+            0 => points.wrapping_sub(1),
+            1 => points + 1,
+            2 => numbers.any() as u32,
+            _ => points,
+        };
+        let right = if declared > 1_000 { 0 } else { u64::from(declared) * 2 };
+        let len = match numbers.below(4) {
+            0 => numbers.below(right + 4),
+            extra => right + extra - 1,
+        };
+        answers[compare((bits, max_level, declared, &payload), len as usize) as usize] += 1;
+    }
+    println!("answers by number: {answers:?}");
+    for (number, least) in [(0, 100_000), (5, 5_000), (9, 50_000), (10, 10_000), (11, 5_000)] {
+        assert!(answers[number] >= least, "too few answers {number}: {answers:?}");
+    }
+}
+
+/// Flips a bit, cuts the end off, or adds an octet.
+fn damage(numbers: &mut Numbers, payload: &mut Vec<u8>) {
+    let len = payload.len() as u64;
+    match numbers.below(3) {
+        0 if len > 0 => payload[numbers.below(len) as usize] ^= 1 << numbers.below(8),
+        1 => payload.truncate(numbers.below(len + 1) as usize),
+        _ => payload.push(numbers.any() as u8),
+    }
+}

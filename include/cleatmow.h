@@ -1,0 +1,91 @@
+/*
+ * The C calls of Cleatmow. A host links libcleatmow.a, which `rt staticlib cleatmow` writes to target/staticlib/.
+ * What a call answers is decided by document 01, "Scope and rules", whose words are used here.
+ *
+ * Every call:
+ * - answers 0, or the number of a refusal (enum cleatmow_refusal). Its comment lists the refusals in the order in which
+ *   they are tested; the first that applies is the answer.
+ * - takes a list of octets as a pointer and a length in octets. In a lent buffer, spare octets short of a whole level
+ *   are not used.
+ * - leaves the places past its answer unchanged after success, and changes no buffer on a refusal unless its comment
+ *   says so. It writes nowhere else.
+ * - keeps nothing and allocates nothing, so calls on buffers of their own may run at the same time.
+ *
+ * The caller's duties, which no call can test:
+ * - behind each pointer stand as many octets as its length says. A pointer may be null only where its length is 0.
+ * - a lent buffer overlaps no other argument, and nobody else uses it until the call returns.
+ */
+#ifndef CLEATMOW_H
+#define CLEATMOW_H
+
+#include <stddef.h>
+#include <stdint.h>
+
+#ifdef __cplusplus
+extern "C" {
+#endif
+
+/* "What each number says" */
+enum cleatmow_refusal {
+    /* splitting method not 1 */
+    CLEATMOW_REFUSAL_SPLITTING = 1,
+    /* missing management above 2 */
+    CLEATMOW_REFUSAL_MANAGEMENT = 2,
+    /* differencing order not 1 or 2 */
+    CLEATMOW_REFUSAL_ORDER = 3,
+    /* descriptor octets not 1 to 4 */
+    CLEATMOW_REFUSAL_DESCRIPTORS = 4,
+    /* number width above 31, width or length bits above 32; run-length b not 1 to 15 or M above 2^b - 1; bit field
+       width outside its range or starting bit above 7 */
+    CLEATMOW_REFUSAL_WIDTH = 5,
+    /* group count 0 or above 4,194,304 */
+    CLEATMOW_REFUSAL_GROUP_COUNT = 6,
+    /* payload too short */
+    CLEATMOW_REFUSAL_SHORT = 7,
+    /* a group width above 31, or a length other than the last above 4,294,967,295 */
+    CLEATMOW_REFUSAL_GROUP_SIZE = 8,
+    /* points do not equal the declared count, or that count is above 4,194,304 */
+    CLEATMOW_REFUSAL_POINTS = 9,
+    /* a lent buffer is too small */
+    CLEATMOW_REFUSAL_ROOM = 10,
+    /* the first run-length code is a repeat */
+    CLEATMOW_REFUSAL_REPEAT = 11,
+    /* a restored number is beyond 2^60 either way */
+    CLEATMOW_REFUSAL_BEYOND = 12,
+    /* packing: list empty or above 4,194,304 numbers, a number above 2,147,483,647, lookahead outside 1 to 65,535; bit
+       writer: a number does not fit */
+    CLEATMOW_REFUSAL_NUMBERS = 13
+};
+
+/* The greatest declared count. No call needs a buffer with room for more. */
+#define CLEATMOW_MOST_POINTS 4194304
+
+/* The size of a level in octets: a number from 0 to M, big-endian. */
+#define CLEATMOW_LEVEL_OCTETS 2
+
+/*
+ * Run-length, template 7.200: reads the levels of a map. All whole codes in the payload are read; fewer than `bits`
+ * bits at the end are ignored. A payload without a whole code has no points.
+ *
+ * bits         b, the bits of a code: 1 to 15
+ * max_level    M, the greatest level: up to 2^b - 1. Codes 0 to M are levels, those above repeat the last level
+ * declared     how many points the map is declared to have: up to CLEATMOW_MOST_POINTS
+ * payload      the octets of Section 7 after its five-octet header
+ * payload_len  how many octets the payload has
+ * levels       lent: room for declared levels, CLEATMOW_LEVEL_OCTETS each
+ * levels_len   how many octets are lent; more than the levels take is fine
+ *
+ * Refusals, in this order: 5, 11, 9, 10. A refusal changes nothing.
+ * 0: the levels stand at the front of `levels`, declared times CLEATMOW_LEVEL_OCTETS octets; those past them are
+ *    unchanged.
+ */
+uint32_t cleatmow_run_length(
+    uint8_t bits, uint16_t max_level, uint32_t declared,
+    const uint8_t *payload, size_t payload_len,
+    uint8_t *levels, size_t levels_len);
+
+#ifdef __cplusplus
+}
+#endif
+
+#endif
