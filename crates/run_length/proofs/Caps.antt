@@ -1,7 +1,7 @@
 -- Numbers that stop at a cap. Assumes nothing.
-use mathlib.Core.Path.{_≡_, refl, ap}
+use mathlib.Core.Path.{_≡_, refl, _∙_}
 use mathlib.Core.Bool.{Bool, true, false}
-use Prim.Native.Nat.{ℕ, zero, suc, _+_, _*_, _≤_, _<_, min}
+use Prim.Native.Nat.{ℕ, zero, suc, _+_, _-_, _*_, _≤_, _<_, min}
 use native.Mathlib.Nat.{suc-mul, zero-mul}
 use native.Mathlib.Omega.{arith}
 use lib.Dec.{leb}
@@ -17,3 +17,20 @@ min-times (suc d) x c = by-test (leb x c) refl
     by-test false h =
         let e : min x c ≡ c = omega (arith, leb-false x c h) in
         rw (e, suc-mul d c, suc-mul d x) (omega (arith, leb-false x c h))
+
+-- and so may a sum
+pub sum-capped : (x y c : ℕ) {p n e : ℕ} → p ≡ min x c → n ≡ min y c → e ≡ min (p + n) c → e ≡ min (x + y) c
+sum-capped x y c ep en ee = ee ∙ rw (ep, en) (plus x y c)
+  where
+    plus : (x y c : ℕ) → min (min x c + min y c) c ≡ min (x + y) c
+    plus x y c = omega arith
+
+-- within a room that is below the cap nothing of it shows
+pub rest-capped : (x y c room : ℕ) {p e to : ℕ} → room < c → p ≡ min x c → e ≡ min y c → to ≡ min e room → min y room - x ≡ to - p
+rest-capped x y c room l ep ee et = rw (et, ee, ep) (rest x y c room l)
+  where
+    inside : (y c room : ℕ) → room < c → min (min y c) room ≡ min y room
+    inside y c room l = omega arith
+
+    rest : (x y c room : ℕ) → room < c → min y room - x ≡ min (min y c) room - min x c
+    rest x y c room l = rw (inside y c room l) (omega arith)

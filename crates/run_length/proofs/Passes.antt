@@ -1,22 +1,20 @@
--- The pass that counts the levels, and the pass that stores them. Assumes nothing.
+-- Walking through all codes. Assumes nothing.
 use mathlib.Core.Path.{_≡_, refl, sym, ap, _∙_}
-use mathlib.Core.List.{List, [], _++_, append-assoc, append-nil, flatMap}
-use Prim.Native.Nat.{ℕ, suc, _+_, _*_, _≤_, _<_, min}
-use native.Mathlib.Nat.{add-mul}
+use mathlib.Core.List.{List, [], _∷_, _++_, append-assoc, append-nil, flatMap}
+use Prim.Native.Nat.{ℕ, zero, suc, _+_, _-_, _*_, _≤_, _<_, min}
+use native.Mathlib.Nat.{sub-self, sub-zero, zero-sub}
 use native.Mathlib.Omega.{arith}
-use lib.ListN.{length, replicate, length-append, length-replicate, replicate-append-replicate}
-use lib.Seq.{sets, length-sets}
+use lib.ListN.{length, replicate, take, length-append, length-replicate, replicate-append-replicate}
+use lib.Seq.{sets, length-sets, take-nil, take-all}
 use Rattle.format.specs.Lists.{listed, _over_}
 use Rattle.format.specs.Layout.{levelOctets}
 use Rattle.format.specs.RunLength.{baseOf, levelsOf, levelsIn}
 use Rattle.laws.specs.Lists.{length-listed}
 use Rattle.laws.specs.Stores.{sets-append, flat-append, length-flat, flat-over}
-use Rattle.run_length.specs.Runs.{cap, placeOf, codesFrom, Coding, Within, Exactly, More, Told, first, Storable}
+use Rattle.run_length.specs.Runs.{cap, placeOf, codesFrom, Coding, Within, Exactly, More, Told, Walked, first}
 use Rattle.run_length.specs.declared.Run.{Run}
-use Rattle.run_length.specs.declared.Turn.{Turn}
-use Rattle.run_length.specs.declared.Turn.the-variants as turn
+use Rattle.run_length.proofs.Caps.{sum-capped, rest-capped}
 use Rattle.run_length.proofs.Codes.{codes-all}
-use Rattle.run_length.proofs.Turns.{told-more}
 
 -- the levels that the codes from a run on mean, its weight being `weight` without a cap
 abbrev levelsFrom : ℕ → ℕ → List ℕ → Run → ℕ → List ℕ
@@ -29,147 +27,152 @@ all-levels b M payload = rw (codes-all b payload)
 first-within : (b M : ℕ) (payload : List ℕ) → Within b M payload first
 first-within b M payload = record { bit-low = omega arith; inside = omega arith; level-low = omega arith; weight-low = omega arith }
 
--- ---- counting
-
-pub record Counting (b M : ℕ) (payload : List ℕ) (r : Run) (points : ℕ) : Type 0 where
-  pub within : Within b M payload r
-  pub weight : ℕ
-  pub weight-is : r .weight ≡ min weight cap
-  pub low : points ≤ cap
-  pub total : min (length (levelsIn b M payload)) cap ≡ min (points + length (levelsFrom b M payload r weight)) cap
-
-pub counting-start : (b M : ℕ) (payload : List ℕ) {r : Run} → r ≡ first → Counting b M payload r 0
-counting-start b M payload e = rw e record {
-  within = first-within b M payload;
-  weight = 1;
-  weight-is = refl;
-  low = omega arith;
-  total = rw (all-levels b M payload) (omega arith);
-}
-
-module _ {b M : ℕ} {payload : List ℕ} {r : Run} {points : ℕ} (i : Counting b M payload r points) where
-  pub counting-more : {n : ℕ} {next : Run} {sum : ℕ} → More b M payload r n next → sum ≡ min (points + n) cap → Counting b M payload next sum
-  counting-more {n} {next} {sum} m e =
-      let x = m .exact (i .weight) (i .weight-is) in
-      record {
-        within = m .within;
-        weight = x .after;
-        weight-is = x .after-is;
-        low = omega arith;
-        total =
-            i .total
-            ∙ omega (arith, x .count-is, ap length (x .levels), length-append (replicate (x .count) (next .level)) (levelsFrom b M payload next (x .after)), length-replicate (x .count) (next .level));
-      }
-
-  pub counting-end : codesFrom b payload (placeOf r) ≡ [] → points ≡ min (length (levelsIn b M payload)) cap
-  unfolding levelsOf
-  counting-end e =
-      let none : length (levelsFrom b M payload r (i .weight)) ≡ 0 = rw e in
-      omega (arith, i .total, i .low)
-
 -- ---- repeating a level
 
--- i of the places are stored
-pub record Repeating (levels₀ : List ℕ) (k more level : ℕ) (levels : List ℕ) (i : ℕ) : Type 0 where
-  pub some : i ≤ more
-  pub long : length levels ≡ length levels₀
-  pub there : levels ≡ sets levels₀ (k * 2) (flatMap levelOctets (replicate i level))
-
-pub size-level : (level : ℕ) → length (levelOctets level) ≡ 2
+size-level : (level : ℕ) → length (levelOctets level) ≡ 2
 size-level level = length-listed 2 _
 
-pub repeating-start : (levels : List ℕ) (k more level : ℕ) → Repeating levels k more level levels 0
-unfolding flatMap
-repeating-start levels k more level = record { some = omega arith; long = refl; there = refl }
+-- the places before k are stored
+pub record Repeating (levels₀ : List ℕ) (from to level : ℕ) (levels : List ℕ) (k : ℕ) : Type 0 where
+  pub low : from ≤ k
+  pub high : k - from ≤ to - from
+  pub long : length levels ≡ length levels₀
+  pub there : levels ≡ sets levels₀ (from * 2) (flatMap levelOctets (replicate (k - from) level))
 
-module _ {levels₀ levels : List ℕ} {k more level i : ℕ} (s : Repeating levels₀ k more level levels i) where
-  pub repeating-more : {levels′ : List ℕ} → i < more → levels′ ≡ sets levels ((k + i) * 2) (levelOctets level) → Repeating levels₀ k more level levels′ (i + 1)
+pub repeating-start : (levels : List ℕ) (from to level : ℕ) → Repeating levels from to level levels from
+unfolding flatMap
+repeating-start levels from to level = record { low = omega arith; high = omega arith; long = refl; there = rw (sub-self from) }
+
+module _ {levels₀ levels : List ℕ} {from to level k : ℕ} (s : Repeating levels₀ from to level levels k) where
+  pub repeating-more : {levels′ : List ℕ} → k < to → levels′ ≡ sets levels (k * 2) (levelOctets level) → Repeating levels₀ from to level levels′ (k + 1)
   unfolding flatMap
   repeating-more {levels′} l e =
-      let xs = flatMap levelOctets (replicate i level) in
-      let place : (k + i) * 2 ≡ k * 2 + length xs = omega (arith, length-flat levelOctets 2 size-level (replicate i level), ap (λ (n : ℕ). n * 2) (length-replicate i level)) in
+      let n : ℕ = k - from in
+      let xs = flatMap levelOctets (replicate n level) in
+      let place : k * 2 ≡ from * 2 + length xs = omega (arith, s .low, length-flat levelOctets 2 size-level (replicate n level), ap (λ (m : ℕ). m * 2) (length-replicate n level)) in
+      let next : n + 1 ≡ k + 1 - from = omega (arith, s .low) in
       record {
-        some = omega arith;
-        long = ap length e ∙ length-sets levels ((k + i) * 2) (levelOctets level) ∙ s .long;
+        low = omega (arith, s .low);
+        high = omega (arith, s .low);
+        long = ap length e ∙ length-sets levels (k * 2) (levelOctets level) ∙ s .long;
         there =
-            e ∙ rw (place, s .there) (sets-append levels₀ (k * 2) xs (levelOctets level))
-            ∙ ap (sets levels₀ (k * 2))
-            (ap (λ (l : List ℕ). xs ++ l) (sym (append-nil (levelOctets level))) ∙ sym (flat-append levelOctets (replicate i level) (replicate 1 level))
-            ∙ ap (flatMap levelOctets) (replicate-append-replicate i 1 level));
+            e ∙ rw (place, s .there) (sets-append levels₀ (from * 2) xs (levelOctets level))
+            ∙ ap (sets levels₀ (from * 2))
+            (ap (λ (l : List ℕ). xs ++ l) (sym (append-nil (levelOctets level))) ∙ sym (flat-append levelOctets (replicate n level) (replicate 1 level))
+            ∙ ap (flatMap levelOctets) (replicate-append-replicate n 1 level ∙ ap (λ (m : ℕ). replicate m level) next));
       }
 
-  pub repeating-end : more ≤ i → levels ≡ sets levels₀ (k * 2) (flatMap levelOctets (replicate more level))
-  repeating-end l = let e : more ≡ i = omega (arith, s .some) in rw e (s .there)
+  pub repeating-end : to ≤ k → levels ≡ sets levels₀ (from * 2) (flatMap levelOctets (replicate (to - from) level))
+  repeating-end l = let e : to - from ≡ k - from = omega (arith, s .high) in rw e (s .there)
 
--- ---- storing
+-- ---- walking
 
-pub record Storing (b M : ℕ) (payload lent : List ℕ) (r : Run) (k : ℕ) (levels : List ℕ) : Type 0 where
+-- the codes before the run are taken: `done` are the levels that they mean
+pub record Walking (b M : ℕ) (payload : List ℕ) (room : ℕ) (lent : List ℕ) (r : Run) (points : ℕ) (levels : List ℕ) : Type 0 where
   pub within : Within b M payload r
   pub weight : ℕ
   pub weight-is : r .weight ≡ min weight cap
   pub done : List ℕ
-  pub count : k ≡ length done
   pub all : levelsIn b M payload ≡ done ++ levelsFrom b M payload r weight
+  pub count : points ≡ min (length done) cap
   pub long : length levels ≡ length lent
-  pub there : levels ≡ flatMap levelOctets done over lent
+  pub there : levels ≡ flatMap levelOctets (take room done) over lent
 
-pub storing-start : (b M : ℕ) (payload lent : List ℕ) {r : Run} → r ≡ first → Storing b M payload lent r 0 lent
+pub walking-start : (b M : ℕ) (payload : List ℕ) (room : ℕ) (lent : List ℕ) {r : Run} → r ≡ first → Walking b M payload room lent r 0 lent
 unfolding flatMap
-storing-start b M payload lent e = rw e record {
+walking-start b M payload room lent e = rw e record {
   within = first-within b M payload;
   weight = 1;
   weight-is = refl;
   done = [];
-  count = refl;
   all = all-levels b M payload;
+  count = refl;
   long = refl;
-  there = refl;
+  there = rw (take-nil {A = ℕ} room);
 }
 
-module _ {b M : ℕ} {payload lent : List ℕ} {r : Run} {k : ℕ} {levels : List ℕ} (s : Storable b M payload lent) (i : Storing b M payload lent r k levels) where
-  module _ {n : ℕ} {next : Run} (m : More b M payload r n next) where
-    x : Exactly b M payload r (i .weight) n next
-    x = m .exact (i .weight) (i .weight-is)
+-- of n more of one level, those that there is still room for
+take-append : (n : ℕ) (xs ys : List ℕ) → take n (xs ++ ys) ≡ take n xs ++ take (n - length xs) ys
+take-append n [] ys = rw (take-nil {A = ℕ} n, sub-zero n)
+take-append zero (x ∷ xs) ys = rw (zero-sub (suc (length xs)))
+take-append (suc n) (x ∷ xs) ys =
+    let e : suc n - suc (length xs) ≡ n - length xs = omega arith in
+    rw e (ap (λ (l : List ℕ). x ∷ l) (take-append n xs ys))
 
-    all-next : levelsIn b M payload ≡ (i .done ++ replicate (x .count) (next .level)) ++ levelsFrom b M payload next (x .after)
-    all-next = i .all ∙ ap (λ (l : List ℕ). i .done ++ l) (x .levels) ∙ sym (append-assoc (i .done) (replicate (x .count) (next .level)) (levelsFrom b M payload next (x .after)))
+take-replicate : (m n level : ℕ) → take m (replicate n level) ≡ replicate (min m n) level
+take-replicate zero n level = let e : min 0 n ≡ 0 = omega arith in rw e
+take-replicate (suc m) zero level = let e : min (suc m) 0 ≡ 0 = omega arith in rw e
+take-replicate (suc m) (suc n) level = let e : min (suc m) (suc n) ≡ suc (min m n) = omega arith in rw e (ap (λ (l : List ℕ). level ∷ l) (take-replicate m n level))
 
-    counts : k + x .count ≤ length (levelsIn b M payload)
-    counts = omega (arith, i .count, ap length all-next, length-append (i .done ++ replicate (x .count) (next .level)) (levelsFrom b M payload next (x .after)), length-append (i .done) (replicate (x .count) (next .level)), length-replicate (x .count) (next .level))
+take-more : (room : ℕ) (done : List ℕ) (n level : ℕ) → take room (done ++ replicate n level) ≡ take room done ++ replicate (min (length done + n) room - length done) level
+take-more room done n level =
+    let e : min (room - length done) n ≡ min (length done + n) room - length done = omega arith in
+    take-append room done (replicate n level)
+    ∙ ap (λ (l : List ℕ). take room done ++ l) (take-replicate (room - length done) n level ∙ ap (λ (m : ℕ). replicate m level) e)
 
-    -- the count is the exact one: it is far from the cap
-    exact-count : n ≡ x .count
-    exact-count = omega (arith, x .count-is, counts, s .few)
+module _ {b M : ℕ} {payload : List ℕ} {room : ℕ} {lent : List ℕ} {r : Run} {points : ℕ} {levels : List ℕ} (w : Walking b M payload room lent r points levels) where
+  module _ (low : room ≤ 4194304) (fits : room * 2 ≤ length lent) {n : ℕ} {next : Run} (m : More b M payload r n next)
+      {end to : ℕ} (ee : end ≡ min (points + n) cap) (et : to ≡ min end room) where
+    x : Exactly b M payload r (w .weight) n next
+    x = m .exact (w .weight) (w .weight-is)
 
-    room : (k + n) * 2 ≤ length levels
-    room = omega (arith, exact-count, counts, s .room, i .long)
+    abbrev more : List ℕ
+    more = w .done ++ replicate (x .count) (next .level)
 
-    few : k + n ≤ 4194304
-    few = omega (arith, exact-count, counts, s .few)
+    length-more : length more ≡ length (w .done) + x .count
+    length-more = length-append (w .done) (replicate (x .count) (next .level)) ∙ ap (λ (q : ℕ). length (w .done) + q) (length-replicate (x .count) (next .level))
 
-    pub storing-more : {levels′ : List ℕ} → levels′ ≡ sets levels (k * 2) (flatMap levelOctets (replicate n (next .level))) → Storing b M payload lent next (k + n) levels′
-    storing-more {levels′} e = record {
+    end-is : end ≡ min (length (w .done) + x .count) cap
+    end-is = sum-capped (length (w .done)) (x .count) cap (w .count) (x .count-is) ee
+
+    -- as many are stored as there is still room for
+    take-is : take room more ≡ take room (w .done) ++ replicate (to - points) (next .level)
+    take-is =
+        let e : min (length (w .done) + x .count) room - length (w .done) ≡ to - points = rest-capped (length (w .done)) (length (w .done) + x .count) cap room (omega arith) (w .count) end-is et in
+        take-more room (w .done) (x .count) (next .level) ∙ ap (λ (q : ℕ). take room (w .done) ++ replicate q (next .level)) e
+
+    stored : (c : ℕ) → to - points ≡ c → sets (flatMap levelOctets (take room (w .done)) over lent) (points * 2) (flatMap levelOctets (replicate c (next .level)))
+        ≡ flatMap levelOctets (take room (w .done) ++ replicate c (next .level)) over lent
+    unfolding flatMap
+    stored zero e = rw (append-nil (take room (w .done)))
+    stored (suc c) e =
+        let few : length (w .done) ≤ room = omega (arith, w .count) in
+        let same : points ≡ length (take room (w .done)) = rw (take-all room (w .done) few) (omega (arith, w .count)) in
+        rw same
+        (flat-over levelOctets 2 size-level lent (take room (w .done)) (replicate (suc c) (next .level))
+        (omega (arith, same, length-replicate c (next .level))))
+
+    pub walking-more : {levels′ : List ℕ} → levels′ ≡ sets levels (points * 2) (flatMap levelOctets (replicate (to - points) (next .level)))
+        → Walking b M payload room lent next end levels′
+    walking-more {levels′} e = record {
       within = m .within;
       weight = x .after;
       weight-is = x .after-is;
-      done = i .done ++ replicate n (next .level);
-      count = omega (arith, i .count, length-append (i .done) (replicate n (next .level)), length-replicate n (next .level));
-      all = all-next ∙ ap (λ (q : ℕ). (i .done ++ replicate q (next .level)) ++ levelsFrom b M payload next (x .after)) (sym exact-count);
-      long = ap length e ∙ length-sets levels (k * 2) (flatMap levelOctets (replicate n (next .level))) ∙ i .long;
+      done = more;
+      all = w .all ∙ ap (λ (l : List ℕ). w .done ++ l) (x .levels) ∙ sym (append-assoc (w .done) (replicate (x .count) (next .level)) (levelsFrom b M payload next (x .after)));
+      count = end-is ∙ ap (λ (q : ℕ). min q cap) (sym length-more);
+      long = ap length e ∙ length-sets levels (points * 2) (flatMap levelOctets (replicate (to - points) (next .level))) ∙ w .long;
       there =
-          e ∙ rw (i .there, i .count)
-          (flat-over levelOctets 2 size-level lent (i .done) (replicate n (next .level)) (omega (arith, room, i .count, length-replicate n (next .level), i .long)));
+          e ∙ ap (λ (l : List ℕ). sets l (points * 2) (flatMap levelOctets (replicate (to - points) (next .level)))) (w .there)
+          ∙ stored (to - points) refl ∙ ap (λ (l : List ℕ). flatMap levelOctets l over lent) (sym take-is);
     }
 
-  pub storing-room : {x : Turn} {n : ℕ} {next : Run} → Told b M payload r x → x ≡ turn.Points n next → (k + n) * 2 ≤ length levels
-  storing-room t e = room (told-more b M payload r t e)
-
-  pub storing-few : {x : Turn} {n : ℕ} {next : Run} → Told b M payload r x → x ≡ turn.Points n next → k + n ≤ 4194304
-  storing-few t e = few (told-more b M payload r t e)
-
-  pub storing-end : codesFrom b payload (placeOf r) ≡ [] → levels ≡ flatMap levelOctets (levelsIn b M payload) over lent
+  pub walking-end : codesFrom b payload (placeOf r) ≡ [] → Walked b M payload room lent points levels
   unfolding levelsOf
-  storing-end e =
-      let none : levelsFrom b M payload r (i .weight) ≡ [] = rw e in
-      let same : levelsIn b M payload ≡ i .done = i .all ∙ rw none (append-nil (i .done)) in
-      rw same (i .there)
+  walking-end e =
+      let none : levelsFrom b M payload r (w .weight) ≡ [] = rw e in
+      let same : levelsIn b M payload ≡ w .done = w .all ∙ rw none (append-nil (w .done)) in
+      record { count = rw same (w .count); there = rw same (w .there) }
+
+-- ---- what a caller knows
+
+module _ {b M : ℕ} {payload lent : List ℕ} {points : ℕ} {levels : List ℕ} where
+  -- with no room nothing is stored
+  pub walked-none : Walked b M payload 0 lent points levels → levels ≡ lent
+  unfolding flatMap
+  walked-none w = w .there
+
+  -- and with room for all of them, all are
+  pub walked-all : {lent′ : List ℕ} (room : ℕ) → Walked b M payload room lent′ points levels → lent′ ≡ lent → length (levelsIn b M payload) ≤ room
+      → levels ≡ flatMap levelOctets (levelsIn b M payload) over lent
+  walked-all room w e h = w .there ∙ rw (e, take-all room (levelsIn b M payload) h)

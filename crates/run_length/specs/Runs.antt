@@ -1,9 +1,11 @@
 -- Runs, one code after another: what a turn owes to document 01's levels. Assumes nothing.
 use mathlib.Core.Path.{_≡_}
-use mathlib.Core.List.{List, [], _++_}
+use mathlib.Core.List.{List, [], _++_, flatMap}
 use Prim.Native.Nat.{ℕ, _+_, _-_, _*_, _/_, _^_, _≤_, _<_, min}
-use lib.ListN.{length, replicate}
+use lib.ListN.{length, replicate, take}
+use Rattle.format.specs.Lists.{_over_}
 use Rattle.format.specs.Bits.{fieldOf}
+use Rattle.format.specs.Layout.{levelOctets}
 use Rattle.format.specs.RunLength.{baseOf, levelsOf, levelsIn}
 use Rattle.run_length.specs.declared.Run.{Run}
 use Rattle.run_length.specs.declared.Turn.{Turn}
@@ -59,7 +61,7 @@ Told b M payload r turn.End = codesFrom b payload (placeOf r) ≡ []
 abbrev pub first : Run
 first = record { octet = record { 0 = 0 }; bit = 0; level = 0; weight = 1 }
 
--- levels that are accepted, and their room
-pub record Storable (b M : ℕ) (payload lent : List ℕ) : Type 0 where
-  pub few : length (levelsIn b M payload) ≤ 4194304
-  pub room : length (levelsIn b M payload) * 2 ≤ length lent
+-- all codes taken: how many levels there are, up to the cap, and the first `room` of them stored
+pub record Walked (b M : ℕ) (payload : List ℕ) (room : ℕ) (lent : List ℕ) (points : ℕ) (levels : List ℕ) : Type 0 where
+  pub count : points ≡ min (length (levelsIn b M payload)) cap
+  pub there : levels ≡ flatMap levelOctets (take room (levelsIn b M payload)) over lent

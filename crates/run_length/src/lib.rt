@@ -1,14 +1,13 @@
 // Run-length, template 7.200: codes are levels, or repeat the last level in digits of a base.
 ghost use mathlib.Core.Path.{_≡_};
-ghost use mathlib.Core.List.{_++_, flatMap};
-ghost use Prim.Native.Nat.{_+_, _*_, _<_, _≤_, _^_, min};
+ghost use mathlib.Core.List.{flatMap};
+ghost use Prim.Native.Nat.{_+_, _-_, _*_, _<_, _≤_, _^_, min};
 ghost use lib.ListN.{length, replicate};
 ghost use lib.Seq.{sets};
 ghost use Rattle.format.specs.Refusals.{left};
-ghost use Rattle.format.specs.Lists.{_over_};
 ghost use Rattle.format.specs.Layout.{levelSize, levelOctets};
-ghost use Rattle.format.specs.RunLength.{codesIn, levelsIn, repeatsFirst, runLength};
-ghost use Rattle.run_length.specs.Runs.{cap, Coding, Within, Told, first, Storable};
+ghost use Rattle.format.specs.RunLength.{codesIn, repeatsFirst, runLength};
+ghost use Rattle.run_length.specs.Runs.{cap, Coding, Within, Told, Walked, first};
 use format::BitPlace;
 use format::OctetPlace;
 use format::Refusal;
@@ -103,10 +102,32 @@ fn start() -> Run
     }
 }
 
-// How many points all codes come to, or the cap where they are more.
-fn counted(bits: usize, greatest: usize, payload: &[u8]) -> usize
-    requires { ⌜ Coding bits greatest ⌝ }
-    ensures { λ r. ⌜ r ≡ min (length (levelsIn bits greatest (now (payload .entry)))) cap ⌝ }
+// Stores a level at the places from one to another.
+fn repeat(levels: &mut [u8], from: usize, to: usize, level: u16)
+    requires { ⌜ to * levelSize ≤ length (now levels) ⌝ }
+    ensures { λ _. ⌜ now (levels .exit) ≡ sets (now (levels .entry)) (from * levelSize) (flatMap levelOctets (replicate (to - from) level)) ⌝ }
+{
+    let mut k = from;
+    while k < to {
+        layout::store_level(levels, k, level);
+        k += 1;
+    }
+}
+
+fn smaller(x: usize, y: usize) -> usize
+    ensures { λ r. ⌜ r ≡ min x y ⌝ }
+{
+    if x < y {
+        return x;
+    }
+    y
+}
+
+// Takes all codes: stores the first `room` levels, and answers how many there are, or the cap where they are more. With no
+// room it decides, with all of them it stores.
+fn walked(bits: usize, greatest: usize, payload: &[u8], levels: &mut [u8], room: usize) -> usize
+    requires { ⌜ Coding bits greatest × (room ≤ 4194304) × (room * levelSize ≤ length (now levels)) ⌝ }
+    ensures { λ r. ⌜ Walked bits greatest (now (payload .entry)) room (now (levels .entry)) r (now (levels .exit)) ⌝ }
 {
     let mut run = start();
     let mut points = 0usize;
@@ -114,36 +135,9 @@ fn counted(bits: usize, greatest: usize, payload: &[u8]) -> usize
         let Turn::Points(more, next) = taken(bits, greatest, payload, run) else {
             return points;
         };
-        points = capped(points + more);
-        run = next;
-    }
-}
-
-// Stores a level at `more` places from place k on.
-fn repeat(levels: &mut [u8], k: usize, more: usize, level: u16)
-    requires { ⌜ (k + more) * levelSize ≤ length (now levels) ⌝ }
-    ensures { λ _. ⌜ now (levels .exit) ≡ sets (now (levels .entry)) (k * levelSize) (flatMap levelOctets (replicate more level)) ⌝ }
-{
-    let mut i = 0usize;
-    while i < more {
-        layout::store_level(levels, k + i, level);
-        i += 1;
-    }
-}
-
-// Stores all levels, for which there is room.
-fn store(bits: usize, greatest: usize, payload: &[u8], levels: &mut [u8])
-    requires { ⌜ Coding bits greatest × Storable bits greatest (now payload) (now levels) ⌝ }
-    ensures { λ _. ⌜ now (levels .exit) ≡ flatMap levelOctets (levelsIn bits greatest (now (payload .entry))) over now (levels .entry) ⌝ }
-{
-    let mut run = start();
-    let mut k = 0usize;
-    loop {
-        let Turn::Points(more, next) = taken(bits, greatest, payload, run) else {
-            return;
-        };
-        repeat(levels, k, more, next.level as u16);
-        k += more;
+        let end = capped(points + more);
+        repeat(levels, points, smaller(end, room), next.level as u16);
+        points = end;
         run = next;
     }
 }
@@ -184,7 +178,7 @@ pub fn run_length(
     if repeats_first(b, top, payload) {
         return Unrolled::Refused(Refusal::Repeat);
     }
-    if counted(b, top, payload) != count {
+    if walked(b, top, payload, levels, 0) != count {
         return Unrolled::Refused(Refusal::Points);
     }
     if 4194304 < count {
@@ -193,6 +187,6 @@ pub fn run_length(
     if levels.len() / 2 < count {
         return Unrolled::Refused(Refusal::Room);
     }
-    store(b, top, payload, levels);
+    walked(b, top, payload, levels, count);
     Unrolled::Levels(declared)
 }

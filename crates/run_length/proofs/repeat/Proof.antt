@@ -1,4 +1,4 @@
--- `run_length::repeat` meets its contract. Assumes nothing.
+-- `run_length::repeat` meets its contract: the places before k are stored. Assumes nothing.
 use Prim.Native.Nat.{_-_}
 use Rattle.run_length.proofs.Passes.{Repeating, repeating-start, repeating-more, repeating-end}
 use native.Mathlib.Omega.{arith}
@@ -6,22 +6,19 @@ use Rattle.run_length.proofs.repeat.Statement.{statement}
 use Rattle.run_length.proofs.repeat.Tie as tie
 
 abbrev Inv-loop : tie.InvT-loop
-Inv-loop levels₀ k more level i₀ levels i = Repeating levels₀ k more level levels i
+Inv-loop levels₀ from to level k₀ levels k = Repeating levels₀ from to level levels k
 
 abbrev μ-loop : tie.MeasureT-loop
-μ-loop levels₀ k more level i₀ levels i = more - i
+μ-loop levels₀ from to level k₀ levels k = to - k
 
 loop-holds : tie.Need-loop-holds Inv-loop μ-loop
 loop-holds c = repeating-start _ _ _ _
 
-add-store-level : tie.Need-add-store-level Inv-loop μ-loop
-add-store-level c = omega arith
-
 store-level-requires : tie.Need-store-level-requires Inv-loop μ-loop
 store-level-requires c κs = omega arith
 
-add-i : tie.Need-add-i Inv-loop μ-loop
-add-i c = omega arith
+add-k : tie.Need-add-k Inv-loop μ-loop
+add-k c = omega arith
 
 loop-less : tie.Need-loop-less Inv-loop μ-loop
 loop-less c = omega arith
@@ -42,9 +39,8 @@ repeat-spec =
     Inv-loop
     μ-loop
     loop-holds
-    add-store-level
     store-level-requires
-    add-i
+    add-k
     loop-less
     loop-again
     same-length

@@ -6,6 +6,7 @@ use Rattle.format.specs.Refusals.{left}
 use Rattle.format.specs.RunLength.{codesIn, repeatsFirst, runLength}
 use Rattle.format.specs.declared.Unrolled.the-variants as unrolled
 use Rattle.format.specs.declared.Refusal.the-variants.{Width, Repeat, Points, Room}
+use Rattle.run_length.proofs.Passes.{walked-none, walked-all}
 use Rattle.laws.specs.First.{decides, clears, tests}
 use native.Mathlib.Omega.{arith}
 use borrow.Author.Needs.{needs}
@@ -37,30 +38,48 @@ returns-4 c = let first = sym (c .before .repeats-first .ensures) ∙ c .if4 .ta
 not-first : (c : tie.Else4) → repeatsFirst (c .before .before .before .before .before .before .before .before .args .greatest) (codesIn (c .before .before .before .before .before .before .before .before .args .bits) (now (c .before .before .before .before .before .before .before .before .args .payload))) ≡ false
 not-first c = sym (c .before .repeats-first .ensures) ∙ c .if4 .left
 
-counted-requires : tie.Need-counted-requires
-counted-requires c κs = search needs
-
-returns-5 : tie.Need-returns-5
-unfolding runLength
-returns-5 c = let fresh = not-first (c .before .before) in decides _ Points _ _ (omega (arith, tests))
-
-returns-6 : tie.Need-returns-6
-unfolding runLength
-returns-6 c = let fresh = not-first (c .before .before .before) in decides _ Points _ _ (omega (arith, tests))
-
-returns-7 : tie.Need-returns-7
-unfolding runLength
-returns-7 c = let fresh = not-first (c .before .before .before .before) in decides _ Room _ _ (omega (arith, tests))
-
-store-requires : tie.Need-store-requires
-store-requires c κs = search needs
+walked-requires : tie.Need-walked-requires
+walked-requires c κs = search needs
 
 same-length : tie.Need-same-length
 same-length c = search needs
 
+returns-5 : tie.Need-returns-5
+unfolding runLength
+returns-5 c =
+    let fresh = not-first (c .before .before .before .before .before) in
+    ap (left (unrolled.Refused Points)) (walked-none (c .before .before .before .walked .ensures)) ∙ decides _ Points _ _ (omega (arith, tests))
+
+same-length-2 : tie.Need-same-length-2
+same-length-2 c = search needs
+
+returns-6 : tie.Need-returns-6
+unfolding runLength
+returns-6 c =
+    let fresh = not-first (c .before .before .before .before .before .before) in
+    ap (left (unrolled.Refused Points)) (walked-none (c .before .before .before .before .walked .ensures)) ∙ decides _ Points _ _ (omega (arith, tests))
+
+same-length-3 : tie.Need-same-length-3
+same-length-3 c = search needs
+
+returns-7 : tie.Need-returns-7
+unfolding runLength
+returns-7 c =
+    let fresh = not-first (c .before .before .before .before .before .before .before) in
+    ap (left (unrolled.Refused Room)) (walked-none (c .before .before .before .before .before .walked .ensures)) ∙ decides _ Room _ _ (omega (arith, tests))
+
+walked-requires-2 : tie.Need-walked-requires-2
+walked-requires-2 c κs = search needs
+
+same-length-4 : tie.Need-same-length-4
+same-length-4 c = search needs
+
 returns-8 : tie.Need-returns-8
 unfolding runLength
-returns-8 c = let fresh = not-first (c .before .before .before .before .before .before .before .before) in ap (left (unrolled.Levels _)) (c .before .before .store .ensures) ∙ clears _ _ _ (omega (arith, tests))
+returns-8 c =
+    let fresh = not-first (c .before .before .before .before .before .before .before .before .before .before .before) in
+    let first = c .before .before .before .before .before .before .before .before .before .walked .ensures in
+    ap (left (unrolled.Levels _)) (walked-all _ (c .before .before .walked2 .ensures) (walked-none first) (omega arith)) ∙ clears _ _ _ (omega (arith, tests))
 
 pub run-length-spec : {M : Type 1} → statement M
 run-length-spec =
@@ -72,10 +91,13 @@ run-length-spec =
     returns-3
     repeats-first-requires
     returns-4
-    counted-requires
-    returns-5
-    returns-6
-    returns-7
-    store-requires
+    walked-requires
     same-length
+    returns-5
+    same-length-2
+    returns-6
+    same-length-3
+    returns-7
+    walked-requires-2
+    same-length-4
     returns-8)
