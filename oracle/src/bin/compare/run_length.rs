@@ -1,0 +1,263 @@
+//! Run-length, template 7.200: `decoder/run_length.rs` against `cleatmow_run_length`.
+
+use std::fmt::{self, Display, Formatter};
+
+use oracle::Outcome::{Answer, Panicked, Refused};
+use oracle::dice::Dice;
+use oracle::runs::{Coding, MOST_POINTS, refusal_for};
+
+use crate::tally::{Tally, Verdict};
+
+pub struct Input {
+    coding: Coding,
+    declared: u32,
+    payload: Vec<u8>,
+}
+
+impl Display for Input {
+    fn fmt(&self, f: &mut Formatter) -> fmt::Result {
+        let Coding { bits, max_level } = self.coding;
+        write!(f, "run_length {bits} {max_level} {} ", self.declared)?;
+        if self.payload.is_empty() {
+            write!(f, "-")?;
+        }
+        self.payload.iter().try_for_each(|octet| write!(f, "{octet:02x}"))
+    }
+}
+
+impl Input {
+    pub fn from_words(words: &[&str]) -> Option<Self> {
+        let [bits, max_level, declared, payload] = words else {
+            return None;
+        };
+        let (bits, max_level) = (bits.parse().ok()?, max_level.parse().ok()?);
+        let digits = if *payload == "-" { "" } else { payload };
+        let octet = |place| u8::from_str_radix(digits.get(place..place + 2)?, 16).ok();
+        let octets = (0..digits.len()).step_by(2).map(octet);
+        Some(Self {
+            coding: Coding { bits, max_level },
+            declared: declared.parse().ok()?,
+            payload: octets.collect::<Option<_>>()?,
+        })
+    }
+}
+
+type Levels = Result<Vec<u16>, u32>;
+
+/// Ours against the Rust; where the Rust is no judge, against document 01 as `runs` has it.
+pub fn judge(input: &Input) -> Verdict {
+    let Input { coding, declared, payload } = input;
+    let (Coding { bits, max_level }, declared) = (*coding, *declared);
+    let ours = cleatmow::run_length(bits, max_level, declared, payload).map_err(|r| r.number());
+    if !coding.in_range() {
+        return outside("b or M that is refused with 5", ours, Err(5));
+    }
+    let runs = coding.runs(payload);
+    let no_judge = if declared > MOST_POINTS {
+        Some("declared count above 4,194,304")
+    } else if runs.points() > u64::from(MOST_POINTS) {
+        Some("too long to run through the Rust")
+    } else if !runs.weights_fit {
+        Some("a place weight beyond usize")
+    } else {
+        None
+    };
+    if let Some(reason) = no_judge {
+        return outside(reason, ours, runs.answer(declared));
+    }
+    match oracle::run_length(bits, max_level, declared as usize, payload) {
+        Answer(levels) if ours.as_ref() == Ok(&levels) => Verdict::Accepted,
+        Answer(levels) => different(ours, "the Rust", Ok(levels)),
+        Refused(said) => match refusal_for(&said) {
+            Some(number) if ours == Err(number) => Verdict::Refused,
+            Some(number) => different(ours, "the Rust", Err(number)),
+            None => Verdict::Different(format!("the Rust says {said}")),
+        },
+        Panicked => outside("the Rust panics", ours, runs.answer(declared)),
+    }
+}
+
+fn outside(reason: &'static str, ours: Levels, document: Levels) -> Verdict {
+    if ours == document { Verdict::Outside(reason) } else { different(ours, "document 01", document) }
+}
+
+fn different(ours: Levels, judge: &str, right: Levels) -> Verdict {
+    let told = |levels: Levels| match levels {
+        Ok(levels) if levels.len() > 40 => format!("{} levels", levels.len()),
+        Ok(levels) => format!("{levels:?}"),
+        Err(number) => format!("refusal {number}"),
+    };
+    Verdict::Different(format!("ours: {}; {judge}: {}", told(ours), told(right)))
+}
+
+/// All inputs of the comparison.
+pub fn compare() -> Tally {
+    let (tally, dice) = (Tally::new("run_length"), Dice::new(7200));
+    let mut comparison = Comparison { tally, dice };
+    comparison.short();
+    comparison.lengths();
+    comparison.made();
+    comparison.chains();
+    comparison.limits();
+    comparison.tally
+}
+
+struct Comparison {
+    tally: Tally,
+    dice: Dice,
+}
+
+impl Comparison {
+    fn one(&mut self, coding: Coding, declared: u32, payload: &[u8]) {
+        let input = Input { coding, declared, payload: payload.to_vec() };
+        self.tally.count(&input, judge(&input));
+    }
+
+    /// The declared count as it should be, one more and one less. A repeat for the first code has no count.
+    fn about_the_count(&mut self, coding: Coding, payload: &[u8]) {
+        let points = count(coding, payload);
+        self.one(coding, points, payload);
+        if points > 0 {
+            self.one(coding, points.saturating_add(1), payload);
+            self.one(coding, points - 1, payload);
+        }
+    }
+
+    /// Every payload of up to two octets. From b 9 on two octets hold one code, so two M are enough there.
+    fn short(&mut self) {
+        self.tally.stage("short, every one", 1_000_000);
+        for coding in Coding::all_to_try(&mut self.dice) {
+            self.about_the_count(coding, &[]);
+            self.one(coding, 1, &[]);
+            for octet in 0..=u8::MAX {
+                self.about_the_count(coding, &[octet]);
+            }
+        }
+        for bits in 1..=15 {
+            let greatest = (1 << bits) - 1;
+            let most = [0, 1, greatest - 1, greatest];
+            for &max_level in if bits <= 8 { &most[..] } else { &most[1..3] } {
+                for octets in 0..=u16::MAX {
+                    self.about_the_count(Coding { bits, max_level }, &octets.to_be_bytes());
+                }
+            }
+        }
+    }
+
+    /// Every length up to twice the one at which codes and octets end together.
+    fn lengths(&mut self) {
+        self.tally.stage("every length", 4_000);
+        for coding in Coding::all_to_try(&mut self.dice) {
+            for octets in 0..=2 * usize::from(coding.bits) + 1 {
+                let random = self.dice.octets(octets);
+                for payload in [vec![0; octets], vec![0xff; octets], random] {
+                    self.about_the_count(coding, &payload);
+                }
+                let codes = octets as u64 * 8 / u64::from(coding.bits);
+                let levels_and_runs = coding.some_payload(&mut self.dice, codes, 300);
+                self.about_the_count(coding, &levels_and_runs);
+            }
+        }
+    }
+
+    /// Longer payloads, and damaged copies of each.
+    fn made(&mut self) {
+        self.tally.stage("made, and damaged copies", 100_000);
+        for _ in 0..25_000 {
+            let bits = 1 + self.dice.below(15) as u8;
+            let codings = Coding::with_bits(&mut self.dice, bits);
+            let coding = self.dice.one_of(&codings);
+            let (codes, points) = (self.dice.below(100), self.dice.one_of(&[3, 30, 300, 3_000]));
+            let good = coding.some_payload(&mut self.dice, codes, points);
+            self.about_the_count(coding, &good);
+            for _ in 0..4 {
+                let damaged = self.damaged(&good);
+                let points = count(coding, &damaged);
+                // Damage often makes a run of millions, which takes the Rust long to store: a few are enough.
+                let long = (50_000..=MOST_POINTS).contains(&points);
+                if !long || self.dice.once_in(20) {
+                    self.one(coding, count(coding, &good), &damaged);
+                    self.one(coding, points, &damaged);
+                }
+            }
+        }
+    }
+
+    /// A bit turned over, an octet changed, cut short, or made longer.
+    fn damaged(&mut self, good: &[u8]) -> Vec<u8> {
+        let mut payload = good.to_vec();
+        let place = self.dice.below(good.len() as u64 + 1) as usize;
+        match (self.dice.below(4), payload.get_mut(place)) {
+            (0, Some(octet)) => *octet ^= 1 << self.dice.below(8),
+            (1, Some(octet)) => *octet = self.dice.number() as u8,
+            (2, Some(_)) => payload.truncate(place),
+            _ => {
+                let more = 1 + self.dice.below(3) as usize;
+                payload.extend(self.dice.octets(more));
+            }
+        }
+        payload
+    }
+
+    /// A level and repeats that add no point, about as many as the Rust's weights bear; then nothing, a repeat that
+    /// adds points, or another level with or without repeats.
+    fn chains(&mut self) {
+        self.tally.stage("chains of zero digits", 2_500);
+        for coding in Coding::all_to_try(&mut self.dice) {
+            if coding.base() == 0 {
+                continue;
+            }
+            let beyond = |digits| u128::from(coding.base()).pow(digits) > usize::MAX as u128;
+            let borne = (1..64).take_while(|digits| !beyond(*digits)).count();
+            let (level, none, most) = (coding.max_level, coding.repeat(0), (1 << coding.bits) - 1);
+            for zeros in (borne - 2..=borne + 2).chain([1, 2, 3, 5, 8, 13, 100, 500]) {
+                let chain = [vec![level], vec![none; zeros]].concat();
+                for tail in [&[][..], &[most], &[level], &[0, most], &[level, none, most]] {
+                    let payload = coding.payload_of(&[&chain, tail].concat());
+                    self.about_the_count(coding, &payload);
+                }
+            }
+        }
+    }
+
+    /// Points and declared counts about the limit; b and M outside their range.
+    fn limits(&mut self) {
+        self.tally.stage("limits", 15);
+        for (bits, max_level) in [(2, 0), (3, 5), (4, 9), (8, 3), (15, 0), (15, 30_000)] {
+            let coding = Coding { bits, max_level };
+            for points in MOST_POINTS - 2..=MOST_POINTS + 2 {
+                let payload = one_run(coding, points);
+                self.about_the_count(coding, &payload);
+                self.one(coding, u32::MAX, &payload);
+            }
+        }
+        let one_bit = Coding { bits: 1, max_level: 1 };
+        for more in 0..2 {
+            let levels_alone = vec![0x5a; MOST_POINTS as usize / 8 + more];
+            self.about_the_count(one_bit, &levels_alone);
+        }
+        for bits in 0..=u8::MAX {
+            let least = if (1..=15).contains(&bits) { 1 << bits } else { 0 };
+            for max_level in [least, least + 1, u16::MAX] {
+                self.one(Coding { bits, max_level }, 1, &[0, 0]);
+                self.one(Coding { bits, max_level }, u32::MAX, &[0xff, 0xff]);
+            }
+        }
+    }
+}
+
+/// The true count, as far as it can be declared.
+fn count(coding: Coding, payload: &[u8]) -> u32 {
+    u32::try_from(coding.runs(payload).points()).unwrap_or(u32::MAX)
+}
+
+/// The greatest level so many times, by repeats; the base is at least 2. Spare bits may be a level more.
+fn one_run(coding: Coding, points: u32) -> Vec<u8> {
+    let mut codes = vec![coding.max_level];
+    let mut left = u64::from(points) - 1;
+    while left > 0 {
+        codes.push(coding.repeat(left % coding.base()));
+        left /= coding.base();
+    }
+    coding.payload_of(&codes)
+}

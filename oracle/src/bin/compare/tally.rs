@@ -1,0 +1,83 @@
+//! What came of the inputs of one operation, stage by stage.
+
+use std::collections::BTreeMap;
+use std::fmt::Display;
+
+#[derive(Debug)]
+pub enum Verdict {
+    /// Both accept, with equal answers.
+    Accepted,
+    /// Both refuse, ours with document 01's number for what the Rust says.
+    Refused,
+    /// Document 01 does not ask the two to meet here, for this reason; ours does as document 01 says.
+    Outside(&'static str),
+    /// They differ, or ours differs from document 01 where the Rust is no judge: what each says.
+    Different(String),
+}
+
+pub struct Tally {
+    operation: &'static str,
+    stages: Vec<Stage>,
+    outside: BTreeMap<&'static str, u64>,
+    different: u64,
+}
+
+struct Stage {
+    name: &'static str,
+    required: u64,
+    accepted: u64,
+    refused: u64,
+    outside: u64,
+}
+
+/// Further differences are counted and not printed.
+const DIFFERENCES_SHOWN: u64 = 20;
+
+impl Tally {
+    pub fn new(operation: &'static str) -> Self {
+        Self { operation, stages: Vec::new(), outside: BTreeMap::new(), different: 0 }
+    }
+
+    /// What is counted from here on is of this stage, in which both have to accept `required` inputs and to refuse as
+    /// many: a comparison of nothing is none.
+    pub fn stage(&mut self, name: &'static str, required: u64) {
+        self.stages.push(Stage { name, required, accepted: 0, refused: 0, outside: 0 });
+    }
+
+    pub fn count(&mut self, input: &impl Display, verdict: Verdict) {
+        let stage = self.stages.last_mut().expect("a stage comes first");
+        match verdict {
+            Verdict::Accepted => stage.accepted += 1,
+            Verdict::Refused => stage.refused += 1,
+            Verdict::Outside(reason) => {
+                stage.outside += 1;
+                *self.outside.entry(reason).or_default() += 1;
+            }
+            Verdict::Different(what) => {
+                self.different += 1;
+                if self.different <= DIFFERENCES_SHOWN {
+                    println!("DIFFERENT: compare {input}\n  {what}");
+                }
+            }
+        }
+    }
+
+    /// Prints the table, and answers whether all is well.
+    pub fn report(&self) -> bool {
+        println!("{:<32}{:>12}{:>12}{:>12}", self.operation, "accepted", "refused", "outside");
+        let mut enough = true;
+        for stage in &self.stages {
+            let Stage { name, required, accepted, refused, outside } = stage;
+            println!("  {name:<30}{accepted:>12}{refused:>12}{outside:>12}");
+            if accepted.min(refused) < required {
+                println!("  TOO FEW: {required} accepted and {required} refused are asked for");
+                enough = false;
+            }
+        }
+        for (reason, count) in &self.outside {
+            println!("  outside, {reason}: {count}");
+        }
+        println!("  different: {}", self.different);
+        enough && self.different == 0
+    }
+}

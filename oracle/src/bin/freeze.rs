@@ -1,0 +1,173 @@
+//! Writes the frozen answers: what the Rust makes of inputs that are the same in every run. `freeze FILE` writes them
+//! to FILE, rows of 64 octets and nothing else, and prints how many rows there are of each kind.
+//!
+//! Octet 0 is the row's kind, numbers are big-endian, and octets without a meaning are 0.
+//!
+//! - Kind 1, the bit reader: 1 starting bit; 2 width; 3 count, 0 to 4; 4 to 23 the octets that are read; from 24 the
+//!   numbers, four octets each.
+//! - Kind 2, the bit writer: the same, but 4 to 23 are what writing the numbers leaves of twenty zeros.
+//! - Kind 3, run-length: 1 b; 2 and 3 M; 4 and 5 declared count; 6 length of the payload, 0 to 12; 7 document 01's
+//!   number for the refusal, or 0; 8 to 19 the payload; from 20 the levels, at most 22, two octets each.
+
+#[cfg(not(have_text))]
+fn main() {
+    println!("{}", oracle::NOT_RUN);
+}
+
+#[cfg(have_text)]
+fn main() -> std::io::Result<()> {
+    let path = std::env::args().nth(1).expect("usage: freeze FILE");
+    let kinds = [frozen::reads(), frozen::writes(), frozen::run_lengths()];
+    std::fs::write(path, kinds.concat().concat())?;
+    let [reads, writes, runs] = kinds.map(|rows| rows.len());
+    println!("frozen: {reads} rows of the bit reader, {writes} of the bit writer, {runs} of run-length");
+    Ok(())
+}
+
+#[cfg(have_text)]
+mod frozen {
+    use oracle::Outcome::{Answer, Panicked, Refused};
+    use oracle::dice::Dice;
+    use oracle::runs::{Coding, MOST_POINTS, refusal_for};
+
+    type Row = [u8; 64];
+
+    /// How many numbers each of the rows for one width and starting bit has.
+    const COUNTS: [usize; 10] = [4, 4, 4, 3, 2, 1, 0, 4, 3, 2];
+
+    /// Every width with every starting bit: all ones, all zeros, then random octets.
+    pub fn reads() -> Vec<Row> {
+        let mut dice = Dice::new(1);
+        let mut rows = Vec::new();
+        for (width, start, sample) in fields(0..=32) {
+            let octets = match sample {
+                0 => vec![0xff; 20],
+                1 => vec![0; 20],
+                _ => dice.octets(20),
+            };
+            let count = COUNTS[sample];
+            let Answer(numbers) = oracle::read_bits(&octets, start, width, count) else {
+                panic!("the Rust reads every width from 20 octets");
+            };
+            assert_eq!(numbers.len(), count);
+            rows.push(field_row(1, start, width, &octets, &numbers));
+        }
+        rows
+    }
+
+    /// The same for writing: the greatest numbers, zeros, then random numbers that fit, the greatest among them.
+    pub fn writes() -> Vec<Row> {
+        let mut dice = Dice::new(2);
+        let mut rows = Vec::new();
+        for (width, start, sample) in fields(1..=32) {
+            let greatest = (1_u64 << width) - 1;
+            let mut number = || match sample {
+                0 => greatest,
+                1 => 0,
+                _ if dice.once_in(5) => greatest,
+                _ => dice.below(greatest + 1),
+            };
+            let numbers: Vec<u32> = (0..COUNTS[sample]).map(|_| number() as u32).collect();
+            let mut octets = [0; 20];
+            let Answer(_) = oracle::write_bits(&numbers, start, width, &mut octets) else {
+                panic!("the Rust writes every width into 20 octets");
+            };
+            rows.push(field_row(2, start, width, &octets, &numbers));
+        }
+        rows
+    }
+
+    fn fields(widths: std::ops::RangeInclusive<usize>) -> impl Iterator<Item = (usize, usize, usize)> {
+        let samples = |width, start| (0..COUNTS.len()).map(move |sample| (width, start, sample));
+        widths.flat_map(move |width| (0..8).flat_map(move |start| samples(width, start)))
+    }
+
+    fn field_row(kind: u8, start: usize, width: usize, octets: &[u8], numbers: &[u32]) -> Row {
+        let mut row = [0; 64];
+        row[..4].copy_from_slice(&[kind, start as u8, width as u8, numbers.len() as u8]);
+        row[4..24].copy_from_slice(octets);
+        let numbers = numbers.iter().copied();
+        put(&mut row[24..40], numbers.flat_map(u32::to_be_bytes));
+        row
+    }
+
+    pub fn run_lengths() -> Vec<Row> {
+        let mut dice = Dice::new(3);
+        let mut rows = Vec::new();
+        for coding in Coding::all_to_try(&mut dice) {
+            run_lengths_in(coding, &mut dice, &mut rows);
+        }
+        rows
+    }
+
+    /// Payloads with their true count, one more and one less; random octets; a repeat for the first code.
+    fn run_lengths_in(coding: Coding, dice: &mut Dice, rows: &mut Vec<Row>) {
+        let mut add = |payload: &[u8], declared: u64| {
+            rows.extend(run_length_row(coding, declared as u16, payload));
+        };
+        add(&[], 0);
+        add(&[], 1);
+        for sample in 0..8 {
+            let payload = few_points(coding, dice);
+            let points = coding.runs(&payload).points();
+            add(&payload, points);
+            let one_off = if sample % 2 == 0 { points + 1 } else { points.saturating_sub(1) };
+            add(&payload, one_off);
+        }
+        for _ in 0..2 {
+            add(&dice.octets(12), dice.below(23));
+        }
+        if coding.base() > 0 {
+            for _ in 0..2 {
+                // All ones are a repeat, whatever b is.
+                let rest = dice.below(11) as usize;
+                let payload = [vec![0xff; 2], dice.octets(rest)].concat();
+                add(&payload, dice.below(23));
+            }
+        }
+    }
+
+    /// A payload whose levels fit a row.
+    fn few_points(coding: Coding, dice: &mut Dice) -> Vec<u8> {
+        loop {
+            let most_codes = 1 + dice.below(96 / u64::from(coding.bits));
+            let most_points = 1 + dice.below(22);
+            let payload = coding.some_payload(dice, most_codes, most_points);
+            let runs = coding.runs(&payload);
+            if runs.weights_fit && runs.points() <= 22 {
+                return payload;
+            }
+        }
+    }
+
+    /// None where the Rust is no judge, or would store more points than document 01 allows.
+    fn run_length_row(coding: Coding, declared: u16, payload: &[u8]) -> Option<Row> {
+        let Coding { bits, max_level } = coding;
+        let runs = coding.runs(payload);
+        if !runs.weights_fit || runs.points() > u64::from(MOST_POINTS) {
+            return None;
+        }
+        let outcome = oracle::run_length(bits, max_level, declared.into(), payload);
+        let (refusal, levels) = match outcome {
+            Answer(levels) => (0, levels),
+            Refused(said) => (refusal_for(&said).expect("9 or 11"), Vec::new()),
+            Panicked => panic!("the Rust has no reason to panic where its weights fit"),
+        };
+        let mut row = [0; 64];
+        row[0] = 3;
+        row[1] = bits;
+        row[2..4].copy_from_slice(&max_level.to_be_bytes());
+        row[4..6].copy_from_slice(&declared.to_be_bytes());
+        row[6] = payload.len() as u8;
+        row[7] = refusal as u8;
+        put(&mut row[8..20], payload.iter().copied());
+        put(&mut row[20..], levels.into_iter().flat_map(u16::to_be_bytes));
+        Some(row)
+    }
+
+    /// Panics where there is no room.
+    fn put(places: &mut [u8], octets: impl Iterator<Item = u8>) {
+        let octets: Vec<u8> = octets.collect();
+        places[..octets.len()].copy_from_slice(&octets);
+    }
+}

@@ -1,0 +1,13 @@
+//! Door to `decoder.rs`: the bit reader of `stream.rs`, and the way to the doors of its private modules.
+
+use super::stream::BitStream;
+
+pub(crate) use super::complex::door::{unpack_complex, unpack_spatial};
+pub(crate) use super::run_length::door::run_length;
+
+pub(crate) fn read_bits(octets: &[u8], start: usize, width: usize, count: usize) -> Vec<u32> {
+    match BitStream::new(octets, width, count) {
+        BitStream::ZeroSized(zeros) => zeros.take(count).collect(),
+        BitStream::NonZeroSized(numbers) => numbers.with_offset(start).take(count).collect(),
+    }
+}

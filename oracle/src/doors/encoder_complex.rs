@@ -1,0 +1,54 @@
+//! Door to `encoder/complex.rs`: from a list of numbers to groups, template numbers and payload, without the step
+//! from physical values and without its path for all-equal data, which document 01 leaves out.
+
+use super::{
+    Bitmap, BitsRequired, CodedValues, ComplexPacking, Encoded, Groups, SimplePacking, WriteGrib2DataSections,
+};
+use crate::shims::encoder::HEADER_OCTETS;
+use crate::{Group, Packing, Template};
+
+pub(crate) fn pack(numbers: &[u32], lookahead: usize) -> Result<Packing, &'static str> {
+    let groups = Groups::from_values(numbers, lookahead);
+    let complex = ComplexPacking::from(&groups);
+    // The number width, as the text's encoder sets it once it has the numbers.
+    let num_bits = numbers.iter().max().unwrap().bits_required();
+
+    let template = Template {
+        number_width: num_bits,
+        splitting: complex.group_splitting_method,
+        missing: complex.missing_value_management,
+        groups: complex.num_groups,
+        width_reference: complex.group_width_ref,
+        width_bits: complex.num_group_width_bits,
+        length_reference: complex.group_len_ref,
+        length_increment: complex.group_len_inc,
+        last_length: complex.group_len_last,
+        length_bits: complex.num_group_len_bits,
+    };
+    let missing_values = [complex.primary_missing_value, complex.secondary_missing_value];
+    let listed = listed(&groups);
+
+    let simple = SimplePacking { ref_val: 0., exp: 0, dec: 0, num_bits };
+    let coded = CodedValues::NonUnique(groups);
+    let encoded = Encoded::new(simple, complex, coded, Bitmap::for_values(&[]));
+    let mut section = vec![0; encoded.section7_len()];
+    let announced = section.len() - HEADER_OCTETS;
+    let written = encoded.write_section7(&mut section)?;
+    let payload = section[HEADER_OCTETS..written].to_vec();
+    Ok(Packing { template, missing_values, groups: listed, payload, announced })
+}
+
+fn listed(Groups(groups): &Groups) -> Vec<Group> {
+    let starts = groups.iter().scan(0, |next, group| {
+        let start = *next;
+        *next += group.len();
+        Some(start)
+    });
+    let group = |(start, group): (usize, &super::Group)| Group {
+        start,
+        length: group.len(),
+        least: group.ref_val,
+        width: group.width,
+    };
+    starts.zip(groups).map(group).collect()
+}

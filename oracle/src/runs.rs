@@ -1,0 +1,155 @@
+//! Document 01's reading of a run-length payload, written plainly for the programs here: they have to know how many
+//! points an input has before they let the Rust store them, and whether the Rust can judge it at all.
+
+use crate::dice::Dice;
+
+/// Above this document 01 refuses every declared count.
+pub const MOST_POINTS: u32 = 4_194_304;
+
+/// Document 01's b and M.
+#[derive(Clone, Copy)]
+pub struct Coding {
+    pub bits: u8,
+    pub max_level: u16,
+}
+
+pub struct Runs {
+    /// The first code repeats a level that is not there: document 01's 11.
+    pub repeat_first: bool,
+    /// Each level with its points, itself counted.
+    pub runs: Vec<(u16, u64)>,
+    /// Each place weight, the one after the last repeat code too, fits the Rust's `usize`. Where one does not, the Rust
+    /// overflows, and document 01 does not ask the two to meet.
+    pub weights_fit: bool,
+}
+
+impl Coding {
+    /// Every b with the M about both ends of its range and one between them.
+    pub fn all_to_try(dice: &mut Dice) -> Vec<Self> {
+        (1..=15).flat_map(|bits| Self::with_bits(dice, bits)).collect()
+    }
+
+    pub fn with_bits(dice: &mut Dice, bits: u8) -> Vec<Self> {
+        let greatest = (1 << bits) - 1;
+        let between = dice.below(1 << bits) as u16;
+        let mut levels = vec![0, 1, 2, between, greatest.max(2) - 2, greatest - 1, greatest];
+        levels.retain(|level| *level <= greatest);
+        levels.sort();
+        levels.dedup();
+        let coding = |max_level| Self { bits, max_level };
+        levels.into_iter().map(coding).collect()
+    }
+
+    /// Document 01 refuses other ones with 5; the functions below are not for those.
+    pub fn in_range(self) -> bool {
+        (1..=15).contains(&self.bits) && self.max_level < 1 << self.bits
+    }
+
+    pub fn base(self) -> u64 {
+        (1 << self.bits) - 1 - u64::from(self.max_level)
+    }
+
+    /// The code that repeats with this digit, which is below the base.
+    pub fn repeat(self, digit: u64) -> u16 {
+        self.max_level + 1 + digit as u16
+    }
+
+    /// A number too large for its kind stops at the greatest, far above any limit.
+    pub fn runs(self, payload: &[u8]) -> Runs {
+        let mut read = Runs { repeat_first: false, runs: Vec::new(), weights_fit: true };
+        let mut weight: u128 = 1;
+        for code in self.codes(payload) {
+            if code <= self.max_level {
+                read.runs.push((code, 1));
+                weight = 1;
+            } else if let Some((_, points)) = read.runs.last_mut() {
+                let more = u128::from(code - self.repeat(0)).saturating_mul(weight);
+                *points = points.saturating_add(u64::try_from(more).unwrap_or(u64::MAX));
+                weight = weight.saturating_mul(self.base().into());
+                read.weights_fit &= usize::try_from(weight).is_ok();
+            } else {
+                read.repeat_first = true;
+                break;
+            }
+        }
+        read
+    }
+
+    /// All whole codes. One touches at most three octets, and what is past the end is shifted out again.
+    fn codes(self, payload: &[u8]) -> impl Iterator<Item = u16> {
+        let width = usize::from(self.bits);
+        let octet = |place| u32::from(*payload.get(place).unwrap_or(&0));
+        (0..payload.len() * 8 / width).map(move |code| {
+            let (first, start) = (code * width / 8, code * width % 8);
+            let three = octet(first) << 16 | octet(first + 1) << 8 | octet(first + 2);
+            (three >> (24 - start - width) & ((1 << width) - 1)) as u16
+        })
+    }
+
+    /// These codes end to end. The spare bits of the last octet are zero, and may be codes beyond them.
+    pub fn payload_of(self, codes: &[u16]) -> Vec<u8> {
+        let width = usize::from(self.bits);
+        let mut payload = vec![0; (codes.len() * width).div_ceil(8)];
+        for place in 0..codes.len() * width {
+            let bit = codes[place / width] >> (width - 1 - place % width) & 1;
+            payload[place / 8] |= (bit as u8) << (7 - place % 8);
+        }
+        payload
+    }
+
+    /// A payload of at most so many codes and points: levels, and repeats for what is left of the points. The spare
+    /// bits of its last octet are random, and may be codes beyond that.
+    pub fn some_payload(self, dice: &mut Dice, most_codes: u64, most_points: u64) -> Vec<u8> {
+        let (mut left, mut weight) = (most_points, 1_u64);
+        let mut codes = Vec::new();
+        while (codes.len() as u64) < most_codes && left > 0 {
+            if self.base() > 0 && !codes.is_empty() && dice.once_in(2) {
+                let most = (left / weight).min(self.base() - 1);
+                let random = dice.below(most + 1);
+                let digit = dice.one_of(&[0, most, random]);
+                codes.push(self.repeat(digit));
+                left -= digit * weight;
+                weight = weight.saturating_mul(self.base());
+            } else {
+                let random = dice.below(u64::from(self.max_level) + 1) as u16;
+                codes.push(dice.one_of(&[0, self.max_level, random, random]));
+                left -= 1;
+                weight = 1;
+            }
+        }
+        let mut payload = self.payload_of(&codes);
+        let spare = payload.len() * 8 - codes.len() * usize::from(self.bits);
+        if let Some(last) = payload.last_mut() {
+            *last |= dice.below(1 << spare) as u8;
+        }
+        payload
+    }
+}
+
+impl Runs {
+    pub fn points(&self) -> u64 {
+        let points = self.runs.iter().map(|(_, points)| points);
+        points.fold(0, |sum: u64, points| sum.saturating_add(*points))
+    }
+
+    /// Document 01's answer: all levels, or the number of the refusal.
+    pub fn answer(&self, declared: u32) -> Result<Vec<u16>, u32> {
+        if self.repeat_first {
+            return Err(11);
+        }
+        if declared > MOST_POINTS || self.points() != u64::from(declared) {
+            return Err(9);
+        }
+        let run = |&(level, points): &(u16, u64)| std::iter::repeat_n(level, points as usize);
+        Ok(self.runs.iter().flat_map(run).collect())
+    }
+}
+
+/// The refusal of document 01 for what the Rust says, or none where it says something else.
+pub fn refusal_for(said: &str) -> Option<u32> {
+    match said {
+        "LengthMismatch" => Some(9),
+        "UnclassifiedError(\"invalid first value\")" => Some(11),
+        _ => None,
+    }
+}
