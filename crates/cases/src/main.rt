@@ -1,4 +1,5 @@
 // Document 01's cases that are run, through the code as it is compiled. What each line must be stands in `stdout`.
+ghost use Prim.Native.Nat.{_<_};
 use libc::STDOUT_FILENO;
 
 fn show(number: u64) {
@@ -6,20 +7,17 @@ fn show(number: u64) {
     io::print_decimal(STDOUT_FILENO, number);
 }
 
-fn wide(x: u8) -> u64 {
+fn wide(x: u8) -> u64
+    ensures { λ r. ⌜ r < 256 ⌝ }
+{
     x as u64
 }
 
-fn show_levels(octets: &[u8]) {
-    let mut i = 0usize;
-    while i < octets.len() {
-        if i + 1 < octets.len() {
-            show(wide(octets[i]) * 256 + wide(octets[i + 1]));
-        }
-        i += 1;
-        if i < octets.len() {
-            i += 1;
-        }
+fn show_levels(levels: &[u8]) {
+    let mut k = 0usize;
+    while k < levels.len() / 2 {
+        show(wide(levels[k * 2]) * 256 + wide(levels[k * 2 + 1]));
+        k += 1;
     }
 }
 

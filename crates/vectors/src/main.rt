@@ -1,0 +1,148 @@
+// Replays frozen answers of the Rust crate: rows of 64 octets on standard input. The top of oracle/src/bin/freeze.rs says
+// how a row goes, and how the file was made. Writes how many rows there are, and how many are not answered as frozen.
+ghost use mathlib.Core.Path.{_≡_};
+ghost use Prim.Native.Nat.{_+_, _*_, _<_, _≤_};
+use format::BitPlace;
+use format::Fetched;
+use format::Stored;
+use libc::STDIN_FILENO;
+use libc::STDOUT_FILENO;
+
+fn small(x: u8) -> usize
+    ensures { λ r. ⌜ (r ≡ x) × (r < 256) ⌝ }
+{
+    x as usize
+}
+
+fn pair(high: u8, low: u8) -> u16
+    ensures { λ r. ⌜ r ≡ high * 256 + low ⌝ }
+{
+    (high as u16) * 256 + (low as u16)
+}
+
+// The numbers of four octets each, four at the most.
+fn numbers_in(octets: &[u8]) -> [u32; 4] {
+    let mut numbers = [0u32; 4];
+    if octets.len() < 16 {
+        return numbers;
+    }
+    numbers[0] = layout::number_in(octets, 0);
+    numbers[1] = layout::number_in(octets, 1);
+    numbers[2] = layout::number_in(octets, 2);
+    numbers[3] = layout::number_in(octets, 3);
+    numbers
+}
+
+fn reads_as_frozen(row: &[u8]) -> bool {
+    if row.len() < 64 {
+        return false;
+    }
+    let count = small(row[3]);
+    if 4 < count {
+        return false;
+    }
+    let frozen = numbers_in(&row[24..40]);
+    let mut numbers = [0u32; 4];
+    let start = BitPlace(small(row[1]));
+    let width = small(row[2]);
+    match stream::read_field(&row[4..24], start, width, count as u32, &mut numbers) {
+        Fetched::Refused(_) => false,
+        Fetched::Done => {
+            numbers[0] == frozen[0]
+                && numbers[1] == frozen[1]
+                && numbers[2] == frozen[2]
+                && numbers[3] == frozen[3]
+        }
+    }
+}
+
+// Whether writing the first numbers leaves the frozen octets in twenty zeroed ones.
+fn leaves(numbers: &[u32], count: usize, start: BitPlace, width: usize, frozen: &[u8]) -> bool {
+    if numbers.len() < count {
+        return false;
+    }
+    let mut octets = [0u8; 20];
+    match writer::write_field(&numbers[..count], start, width, &mut octets) {
+        Stored::Refused(_) => false,
+        Stored::Span(_) => check::same(&octets, frozen),
+    }
+}
+
+fn writes_as_frozen(row: &[u8]) -> bool {
+    if row.len() < 64 {
+        return false;
+    }
+    let count = small(row[3]);
+    if 4 < count {
+        return false;
+    }
+    let numbers = numbers_in(&row[24..40]);
+    let start = BitPlace(small(row[1]));
+    let width = small(row[2]);
+    leaves(&numbers, count, start, width, &row[4..24])
+}
+
+fn unrolls_as_frozen(row: &[u8]) -> bool {
+    if row.len() < 64 {
+        return false;
+    }
+    let length = small(row[6]);
+    if 12 < length {
+        return false;
+    }
+    let declared = pair(row[4], row[5]);
+    let mut levels = [0u8; 44];
+    let number = cleatmow::cleatmow_run_length(
+        row[1],
+        pair(row[2], row[3]),
+        declared as u32,
+        &row[8..8 + length],
+        &mut levels,
+    );
+    if (number as usize) != small(row[7]) {
+        return false;
+    }
+    check::same(&levels, &row[20..64])
+}
+
+fn as_frozen(row: &[u8]) -> bool {
+    if row.len() < 64 {
+        return false;
+    }
+    let kind = row[0];
+    match kind {
+        1 => reads_as_frozen(row),
+        2 => writes_as_frozen(row),
+        3 => unrolls_as_frozen(row),
+        _ => false,
+    }
+}
+
+// How many of the next row's answers are not as frozen, 0 or 1; 2 where there is no further row.
+fn next_row() -> u64
+    ensures { λ r. ⌜ r ≤ 2 ⌝ }
+{
+    let mut row = [0u8; 64];
+    if io::read_full(STDIN_FILENO, &mut row) < 64 {
+        return 2;
+    }
+    if as_frozen(&row) { 0 } else { 1 }
+}
+
+fn main() {
+    let mut rows = 0u64;
+    let mut wrong = 0u64;
+    while rows < 1000000 {
+        let row = next_row();
+        if row == 2 {
+            break;
+        }
+        wrong += row;
+        rows += 1;
+    }
+    io::write_all(STDOUT_FILENO, b"rows ");
+    io::print_decimal(STDOUT_FILENO, rows);
+    io::write_all(STDOUT_FILENO, b"\nnot as frozen ");
+    io::print_decimal(STDOUT_FILENO, wrong);
+    io::write_all(STDOUT_FILENO, b"\n");
+}
