@@ -1,18 +1,38 @@
-# Needs the Rattle toolchain, rt, on the PATH. RT_JOBS is how many proofs it runs at a time.
+# Needs the Rattle toolchain (rt), and cargo for the host and the oracle, on the PATH. RT_JOBS is how many proofs run at a
+# time. Cargo uses no registry.
 export RT_JOBS := $(shell nproc)
+CARGO := cargo --offline --quiet
 
-.PHONY: desk test check fmt clean
+.PHONY: desk test host compare freeze bench check fmt clean
 
-# The main job. Until the desk command exists: prove every crate, and with them document 01's cases.
+# The main job. Until the desk command exists: prove every crate and run the programs on document 01's cases.
 desk:
 	@rt check
-	@echo "The desk command is not there yet; every crate is proved, document 01's cases (format/specs/Cases.antt) too."
+	@echo "The desk command is not there yet; every crate is proved, and document 01's cases and the frozen answers ran."
 
-# All checks: the layout of the files; then, from nothing, every crate, every must-fail edit and every program.
-# rt ci comes last, so that its 'N passed, 0 failed' is the last line.
+# All checks: the layout of the files; the host's tests through the C calls; the live comparison with the Rust, where its
+# text is there; then, from nothing, every crate, every must-fail edit and every program. rt ci comes last, so that its
+# 'N passed, 0 failed' is the last line.
 test:
 	@rt fmt --check
+	@$(MAKE) --no-print-directory host compare
 	@rt ci
+
+# The Rust host: it makes the archive of the C calls, links it and tests it.
+host:
+	@cd host && cargo fmt --check && $(CARGO) test
+
+# The Rust crate as a judge: its doors' tests, and the live comparison.
+compare:
+	@cd oracle && cargo fmt --check && $(CARGO) test && $(CARGO) run --bin compare
+
+# The oracle's answers that the program `vectors` replays.
+freeze:
+	@cd oracle && $(CARGO) run --bin freeze -- ../crates/vectors/stdin
+
+# Ours and the Rust's on the same inputs, in one run; and instructions a point.
+bench:
+	@sh oracle/bench.sh
 
 # Prove what has changed, and what depends on it.
 check:
@@ -22,6 +42,6 @@ check:
 fmt:
 	@rt fmt
 
-# Remove what the toolchain made.
+# Remove what was made.
 clean:
-	@rm -rf target
+	@rm -rf target host/target oracle/target
