@@ -128,6 +128,13 @@ mod doors_to_the_text {
         caught(|| debug(decoder::door::run_length(bits, max_level, declared, payload)))
     }
 
+    /// Run-length as it is timed: the Rust's call and nothing about it, so a panic is not caught. None where it
+    /// refuses. Never inlined, so that a tool that counts instructions finds by name where it begins and ends.
+    #[inline(never)]
+    pub fn rust_run_length(bits: u8, max_level: u16, declared: usize, payload: &[u8]) -> Option<Vec<u16>> {
+        decoder::door::run_length(bits, max_level, declared, payload).ok()
+    }
+
     pub fn unpack_complex(template: &Template, payload: &[u8]) -> Outcome<Vec<Point>> {
         caught(|| debug(decoder::door::unpack_complex(template, payload)))
     }

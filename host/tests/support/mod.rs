@@ -1,0 +1,4 @@
+//! What tests share.
+
+pub mod others;
+pub mod sha256;

@@ -1,0 +1,206 @@
+//! The benchmark: ours, through its C calls, and the Rust on the same map in one run. docs/PERFORMANCE.md says what is
+//! timed.
+//!
+//! `bench [OPERATION] [--points N]` times one operation or all, on maps of N points, 1,000,000 without the option.
+//! With `--only-ours` or `--only-rust` it makes one call and times nothing, for a tool that counts instructions.
+//!
+//! An operation is a type that is an `Operation`, and a line in `OPERATIONS`.
+
+#[cfg(not(have_text))]
+fn main() {
+    println!("{}", oracle::NOT_RUN);
+}
+
+#[cfg(have_text)]
+fn main() {
+    let Some(options) = bench::Options::from_words(std::env::args().skip(1)) else {
+        eprintln!("{}", bench::usage());
+        std::process::exit(2);
+    };
+    bench::run(&options);
+}
+
+#[cfg(have_text)]
+mod bench {
+    use std::hint::black_box;
+    use std::time::Instant;
+
+    use cleatmow::maps::{RunLengthMap, rain};
+    use cleatmow::{LEVEL_OCTETS, MOST_POINTS, run_length, run_length_into};
+    use oracle::rust_run_length;
+
+    /// Every operation: with `cleatmow_` before its name it is the C call, with `rust_` the oracle's function.
+    const OPERATIONS: [(&str, Run); 1] =
+        [("run_length", |name, options| bench(name, RunLength::new(options.points), options))];
+
+    /// Does with an operation of this name what the options say.
+    type Run = fn(&str, &Options);
+
+    /// An operation with its map and a buffer to lend. The calls are timed; what they answer is freed after that.
+    trait Operation {
+        type Answer: PartialEq;
+
+        /// The C call, on the lent buffer.
+        fn ours_lent(&mut self);
+        /// The host's wrapper, which lends a buffer of its own and answers a list.
+        fn ours_new(&self) -> Self::Answer;
+        /// The Rust, which answers a list.
+        fn rust(&self) -> Self::Answer;
+
+        /// What stands in the lent buffer.
+        fn left(&self) -> Self::Answer;
+        /// What every call must give.
+        fn right(&self) -> &Self::Answer;
+        /// The octets of the packed map.
+        fn octets(&self) -> usize;
+    }
+
+    struct RunLength {
+        map: RunLengthMap,
+        levels: Vec<u8>,
+    }
+
+    impl RunLength {
+        fn new(points: u32) -> Self {
+            Self { map: rain(points), levels: vec![0; points as usize * LEVEL_OCTETS] }
+        }
+    }
+
+    impl Operation for RunLength {
+        type Answer = Vec<u16>;
+
+        fn ours_lent(&mut self) {
+            let RunLengthMap { bits, max_level, declared, ref payload, .. } = self.map;
+            run_length_into(bits, max_level, declared, black_box(payload), &mut self.levels).expect("a good map");
+            black_box(&mut self.levels);
+        }
+
+        fn ours_new(&self) -> Vec<u16> {
+            let RunLengthMap { bits, max_level, declared, ref payload, .. } = self.map;
+            run_length(bits, max_level, declared, black_box(payload)).expect("a good map")
+        }
+
+        fn rust(&self) -> Vec<u16> {
+            let RunLengthMap { bits, max_level, declared, ref payload, .. } = self.map;
+            rust_run_length(bits, max_level, declared as usize, black_box(payload)).expect("a good map")
+        }
+
+        fn left(&self) -> Vec<u16> {
+            self.levels.chunks_exact(LEVEL_OCTETS).map(|level| u16::from_be_bytes([level[0], level[1]])).collect()
+        }
+
+        fn right(&self) -> &Vec<u16> {
+            &self.map.levels
+        }
+
+        fn octets(&self) -> usize {
+            self.map.payload.len()
+        }
+    }
+
+    pub struct Options {
+        /// All where none is named.
+        operation: Option<String>,
+        points: u32,
+        calls: Calls,
+    }
+
+    #[derive(PartialEq)]
+    enum Calls {
+        Timed,
+        OnlyOurs,
+        OnlyRust,
+    }
+
+    pub fn usage() -> String {
+        let names = OPERATIONS.map(|(name, _)| name).join(" | ");
+        format!("usage: bench [{names}] [--points N] [--only-ours | --only-rust], N from 1 to {MOST_POINTS}")
+    }
+
+    impl Options {
+        pub fn from_words(mut words: impl Iterator<Item = String>) -> Option<Self> {
+            let mut options = Self { operation: None, points: 1_000_000, calls: Calls::Timed };
+            while let Some(word) = words.next() {
+                match word.as_str() {
+                    "--points" => options.points = words.next()?.parse().ok()?,
+                    "--only-ours" if options.calls == Calls::Timed => options.calls = Calls::OnlyOurs,
+                    "--only-rust" if options.calls == Calls::Timed => options.calls = Calls::OnlyRust,
+                    name if OPERATIONS.iter().any(|(known, _)| *known == name) => options.operation = Some(word),
+                    _ => return None,
+                }
+            }
+            (1..=MOST_POINTS).contains(&options.points).then_some(options)
+        }
+    }
+
+    pub fn run(options: &Options) {
+        for (name, run) in OPERATIONS {
+            if options.operation.as_ref().is_none_or(|wanted| wanted == name) {
+                run(name, options);
+            }
+        }
+    }
+
+    fn bench(name: &str, mut operation: impl Operation, options: &Options) {
+        let Options { points, ref calls, .. } = *options;
+        if *calls != Calls::OnlyRust {
+            operation.ours_lent();
+            assert!(operation.left() == *operation.right(), "{name}: ours is wrong");
+        }
+        if *calls != Calls::OnlyOurs {
+            assert!(operation.rust() == *operation.right(), "{name}: the Rust is wrong");
+        }
+        if *calls != Calls::Timed {
+            println!("{name}: one call on {points} points");
+            return;
+        }
+        assert!(operation.ours_new() == *operation.right(), "{name}: ours is wrong as a list");
+        time(name, &mut operation, points);
+    }
+
+    /// How often each form of ours is timed. The Rust is timed after each of them, so twice as often.
+    const REPETITIONS: usize = 51;
+
+    /// The C library keeps what is freed once a block of this size was (glibc: the threshold follows the largest block,
+    /// up to 32 MiB). Otherwise a call would pay for pages that the one before it gave back to the system.
+    const KEPT: usize = 30 << 20;
+
+    fn time(name: &str, operation: &mut impl Operation, points: u32) {
+        drop(black_box(vec![1_u8; KEPT]));
+        let (mut lent, mut new, mut rust) = (Times::default(), Times::default(), Times::default());
+        for _ in 0..REPETITIONS {
+            lent.add(|| operation.ours_lent());
+            rust.add(|| operation.rust());
+            new.add(|| operation.ours_new());
+            rust.add(|| operation.rust());
+        }
+        println!("{name}: {points} points in {} octets, nanoseconds a point", operation.octets());
+        let new = new.report("ours, new list", points);
+        let lent = lent.report("ours, lent buffer", points);
+        let rust = rust.report("Rust, new list", points);
+        println!("  ours / Rust, by the medians:");
+        println!("    {:.2} new list: both allocate", new / rust);
+        println!("    {:.2} lent buffer: the Rust alone allocates", lent / rust);
+    }
+
+    /// How long each call took, in nanoseconds.
+    #[derive(Default)]
+    struct Times(Vec<u128>);
+
+    impl Times {
+        fn add<T>(&mut self, call: impl FnOnce() -> T) {
+            let start = Instant::now();
+            let answer = black_box(call());
+            self.0.push(start.elapsed().as_nanos());
+            drop(answer);
+        }
+
+        /// Prints the best and the median time a point, and answers the median.
+        fn report(mut self, form: &str, points: u32) -> f64 {
+            self.0.sort_unstable();
+            let [best, median] = [0, self.0.len() / 2].map(|place| self.0[place] as f64 / f64::from(points));
+            println!("  {form:<18} best {best:7.3}  median {median:7.3}  of {}", self.0.len());
+            median
+        }
+    }
+}
