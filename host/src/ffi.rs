@@ -29,3 +29,10 @@ pub fn run_length(bits: u8, max_level: u16, declared: u32, payload: &[u8], level
         )
     }
 }
+
+/// The octets of a list of levels, to lend it.
+pub fn octets_of(levels: &mut [u16]) -> &mut [u8] {
+    // SAFETY: a `u16` is two octets without padding, any octets are a `u16`, and an octet needs no alignment. The octets
+    // are borrowed for as long as the list is.
+    unsafe { std::slice::from_raw_parts_mut(levels.as_mut_ptr().cast(), size_of_val(levels)) }
+}

@@ -32,9 +32,12 @@ pub use run_length::{run_length, run_length_into, LEVEL_OCTETS};
 /// The greatest declared count. No call needs a buffer with room for more.
 pub const MOST_POINTS: u32 = 4_194_304;
 
-/// A buffer to lend for `declared` places of `octets` each. A declared count above [`MOST_POINTS`] gets none: the
-/// refusal for the count (9) comes before the one for the room (10), so nothing is lost by it.
-fn lent(declared: u32, octets: usize) -> Vec<u8> {
-    let places = if declared > MOST_POINTS { 0 } else { declared };
-    vec![0; places as usize * octets]
+/// How many places to lend for a declared count. One above [`MOST_POINTS`] gets none: the refusal for the count (9)
+/// comes before the one for the room (10), so nothing is lost by it.
+fn lent(declared: u32) -> usize {
+    if declared > MOST_POINTS {
+        0
+    } else {
+        declared as usize
+    }
 }

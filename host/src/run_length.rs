@@ -14,9 +14,13 @@ pub const LEVEL_OCTETS: usize = 2;
 ///
 /// [`Refusal::Width`], [`Refusal::Repeat`] and [`Refusal::Points`], tested in this order.
 pub fn run_length(bits: u8, max_level: u16, declared: u32, payload: &[u8]) -> Result<Vec<u16>, Refusal> {
-    let mut levels = lent(declared, LEVEL_OCTETS);
-    run_length_into(bits, max_level, declared, payload, &mut levels)?;
-    Ok(levels.chunks_exact(LEVEL_OCTETS).map(|level| u16::from_be_bytes([level[0], level[1]])).collect())
+    let mut levels = vec![0; lent(declared)];
+    run_length_into(bits, max_level, declared, payload, ffi::octets_of(&mut levels))?;
+    // The list itself was lent, so each level stands in it as its two octets.
+    for level in &mut levels {
+        *level = u16::from_be(*level);
+    }
+    Ok(levels)
 }
 
 /// The levels of a run-length map, in octets that the caller lends.

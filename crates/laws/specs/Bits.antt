@@ -135,6 +135,11 @@ number-five octets at ha hb hc hd he hr =
       number-octet octets at 4 (omega arith),
     )
 
+pub number-there : (octets : List ℕ) (at : ℕ) → ((k : ℕ) → getD octets k 0 < 256) → {r : ℕ}
+    → r ≡ (((getD octets at 0 * 256 + getD octets (at + 1) 0) * 256 + getD octets (at + 2) 0) * 256 + getD octets (at + 3) 0) * 256 + getD octets (at + 4) 0
+    → r ≡ numberOf (bitIn 8 octets) (at * 8) 40
+number-there octets at h e = number-five octets at (refl, h at) (refl, h (at + 1)) (refl, h (at + 2)) (refl, h (at + 3)) (refl, h (at + 4)) e
+
 -- a number that starts at bit s of n whole octets
 pub number-read : (octets : List ℕ) (at s w n : ℕ) → s + w ≤ n * 8
     → numberOf (bitIn 8 octets) (at * 8) (n * 8) / 2 ^ (n * 8 - s - w) % 2 ^ w ≡ numberOf (bitIn 8 octets) (at * 8 + s) w

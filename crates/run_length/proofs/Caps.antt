@@ -1,5 +1,5 @@
 -- Numbers that stop at a cap. Assumes nothing.
-use mathlib.Core.Path.{_≡_, refl, _∙_}
+use mathlib.Core.Path.{_≡_, refl, sym, _∙_}
 use mathlib.Core.Bool.{Bool, true, false}
 use Prim.Native.Nat.{ℕ, zero, suc, _+_, _-_, _*_, _≤_, _<_, min}
 use native.Mathlib.Nat.{suc-mul, zero-mul}
@@ -19,11 +19,14 @@ min-times (suc d) x c = by-test (leb x c) refl
         rw (e, suc-mul d c, suc-mul d x) (omega (arith, leb-false x c h))
 
 -- and so may a sum
-pub sum-capped : (x y c : ℕ) {p n e : ℕ} → p ≡ min x c → n ≡ min y c → e ≡ min (p + n) c → e ≡ min (x + y) c
-sum-capped x y c ep en ee = ee ∙ rw (ep, en) (plus x y c)
+pub sum-capped : (x y n c : ℕ) {p e : ℕ} → p ≡ min x c → min n c ≡ min y c → e ≡ min (p + n) c → e ≡ min (x + y) c
+sum-capped x y n c ep en ee = ee ∙ rw ep (plus x n c ∙ rw en (sym (plus′ x y c)))
   where
-    plus : (x y c : ℕ) → min (min x c + min y c) c ≡ min (x + y) c
-    plus x y c = omega arith
+    plus : (x n c : ℕ) → min (min x c + n) c ≡ min (x + min n c) c
+    plus x n c = omega arith
+
+    plus′ : (x y c : ℕ) → min (x + y) c ≡ min (x + min y c) c
+    plus′ x y c = omega arith
 
 -- within a room that is below the cap nothing of it shows
 pub rest-capped : (x y c room : ℕ) {p e to : ℕ} → room < c → p ≡ min x c → e ≡ min y c → to ≡ min e room → min y room - x ≡ to - p

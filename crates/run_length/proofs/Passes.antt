@@ -62,8 +62,13 @@ module _ {levels₀ levels : List ℕ} {from to level k : ℕ} (s : Repeating le
             ∙ ap (flatMap levelOctets) (replicate-append-replicate n 1 level ∙ ap (λ (m : ℕ). replicate m level) next));
       }
 
-  pub repeating-end : to ≤ k → levels ≡ sets levels₀ (from * 2) (flatMap levelOctets (replicate (to - from) level))
-  repeating-end l = let e : to - from ≡ k - from = omega (arith, s .high) in rw e (s .there)
+  pub repeating-end : (end room : ℕ) → to ≡ min end room → to ≤ k → levels ≡ sets levels₀ (from * 2) (flatMap levelOctets (replicate (min end room - from) level))
+  repeating-end end room et l = let e : min end room - from ≡ k - from = omega (arith, s .high) in rw e (s .there)
+
+-- nothing where there is no room
+pub repeating-none : (levels : List ℕ) (from end room level : ℕ) → room ≤ from → levels ≡ sets levels (from * 2) (flatMap levelOctets (replicate (min end room - from) level))
+unfolding flatMap
+repeating-none levels from end room level l = let e : min end room - from ≡ 0 = omega arith in rw e
 
 -- ---- walking
 
@@ -112,7 +117,7 @@ take-more room done n level =
 
 module _ {b M : ℕ} {payload : List ℕ} {room : ℕ} {lent : List ℕ} {r : Run} {points : ℕ} {levels : List ℕ} (w : Walking b M payload room lent r points levels) where
   module _ (low : room ≤ 4194304) (fits : room * 2 ≤ length lent) {n : ℕ} {next : Run} (m : More b M payload r n next)
-      {end to : ℕ} (ee : end ≡ min (points + n) cap) (et : to ≡ min end room) where
+      {end : ℕ} (ee : end ≡ min (points + n) cap) where
     x : Exactly b M payload r (w .weight) n next
     x = m .exact (w .weight) (w .weight-is)
 
@@ -123,15 +128,15 @@ module _ {b M : ℕ} {payload : List ℕ} {room : ℕ} {lent : List ℕ} {r : Ru
     length-more = length-append (w .done) (replicate (x .count) (next .level)) ∙ ap (λ (q : ℕ). length (w .done) + q) (length-replicate (x .count) (next .level))
 
     end-is : end ≡ min (length (w .done) + x .count) cap
-    end-is = sum-capped (length (w .done)) (x .count) cap (w .count) (x .count-is) ee
+    end-is = sum-capped (length (w .done)) (x .count) n cap (w .count) (x .count-is) ee
 
     -- as many are stored as there is still room for
-    take-is : take room more ≡ take room (w .done) ++ replicate (to - points) (next .level)
+    take-is : take room more ≡ take room (w .done) ++ replicate (min end room - points) (next .level)
     take-is =
-        let e : min (length (w .done) + x .count) room - length (w .done) ≡ to - points = rest-capped (length (w .done)) (length (w .done) + x .count) cap room (omega arith) (w .count) end-is et in
+        let e : min (length (w .done) + x .count) room - length (w .done) ≡ min end room - points = rest-capped (length (w .done)) (length (w .done) + x .count) cap room (omega arith) (w .count) end-is refl in
         take-more room (w .done) (x .count) (next .level) ∙ ap (λ (q : ℕ). take room (w .done) ++ replicate q (next .level)) e
 
-    stored : (c : ℕ) → to - points ≡ c → sets (flatMap levelOctets (take room (w .done)) over lent) (points * 2) (flatMap levelOctets (replicate c (next .level)))
+    stored : (c : ℕ) → min end room - points ≡ c → sets (flatMap levelOctets (take room (w .done)) over lent) (points * 2) (flatMap levelOctets (replicate c (next .level)))
         ≡ flatMap levelOctets (take room (w .done) ++ replicate c (next .level)) over lent
     unfolding flatMap
     stored zero e = rw (append-nil (take room (w .done)))
@@ -142,7 +147,7 @@ module _ {b M : ℕ} {payload : List ℕ} {room : ℕ} {lent : List ℕ} {r : Ru
         (flat-over levelOctets 2 size-level lent (take room (w .done)) (replicate (suc c) (next .level))
         (omega (arith, same, length-replicate c (next .level))))
 
-    pub walking-more : {levels′ : List ℕ} → levels′ ≡ sets levels (points * 2) (flatMap levelOctets (replicate (to - points) (next .level)))
+    pub walking-more : {levels′ : List ℕ} → levels′ ≡ sets levels (points * 2) (flatMap levelOctets (replicate (min end room - points) (next .level)))
         → Walking b M payload room lent next end levels′
     walking-more {levels′} e = record {
       within = m .within;
@@ -151,10 +156,10 @@ module _ {b M : ℕ} {payload : List ℕ} {room : ℕ} {lent : List ℕ} {r : Ru
       done = more;
       all = w .all ∙ ap (λ (l : List ℕ). w .done ++ l) (x .levels) ∙ sym (append-assoc (w .done) (replicate (x .count) (next .level)) (levelsFrom b M payload next (x .after)));
       count = end-is ∙ ap (λ (q : ℕ). min q cap) (sym length-more);
-      long = ap length e ∙ length-sets levels (points * 2) (flatMap levelOctets (replicate (to - points) (next .level))) ∙ w .long;
+      long = ap length e ∙ length-sets levels (points * 2) (flatMap levelOctets (replicate (min end room - points) (next .level))) ∙ w .long;
       there =
-          e ∙ ap (λ (l : List ℕ). sets l (points * 2) (flatMap levelOctets (replicate (to - points) (next .level)))) (w .there)
-          ∙ stored (to - points) refl ∙ ap (λ (l : List ℕ). flatMap levelOctets l over lent) (sym take-is);
+          e ∙ ap (λ (l : List ℕ). sets l (points * 2) (flatMap levelOctets (replicate (min end room - points) (next .level)))) (w .there)
+          ∙ stored (min end room - points) refl ∙ ap (λ (l : List ℕ). flatMap levelOctets l over lent) (sym take-is);
     }
 
   pub walking-end : codesFrom b payload (placeOf r) ≡ [] → Walked b M payload room lent points levels

@@ -1,12 +1,14 @@
 -- A turn: one code, and what it means. Assumes nothing.
 use mathlib.Core.Path.{_≡_, refl, sym, ap, subst, _∙_}
+use mathlib.Core.Bool.{Bool, true, false, cond}
 use mathlib.Core.List.{List, [], _∷_, _++_}
 use Prim.Native.Nat.{ℕ, _+_, _-_, _*_, _/_, _%_, _^_, _≤_, _<_, min}
-use native.Mathlib.Nat.{lt-of-lt-of-le, mul-comm}
+use native.Mathlib.Nat.{lt-of-lt-of-le, mul-comm, zero-mul, zero-add}
 use native.Mathlib.Omega.{arith}
 use lib.Pow.{pow-mono}
 use lib.ListN.{length, replicate}
-use borrow.Author.Tests.{lt-ltb, le-ltb}
+use lib.Dec.{leb}
+use borrow.Author.Tests.{lt-ltb, le-ltb, leb-true, leb-false}
 use Rattle.format.specs.Bits.{numberAt}
 use Rattle.format.specs.RunLength.{baseOf, levelsOf}
 use Rattle.run_length.specs.Runs.{cap, placeOf, codesFrom, Coding, Within, Exactly, More, Told}
@@ -18,10 +20,10 @@ use Rattle.run_length.proofs.Codes.{codes-none, codes-next}
 
 module _ {b M : ℕ} {payload : List ℕ} {r : Run} (c : Coding b M) (w : Within b M payload r) where
   -- where no whole code is left
-  pub taken-end : length payload - r .octet .0 < (r .bit + b + 7) / 8 → codesFrom b payload (placeOf r) ≡ []
+  pub taken-end : length payload < r .octet .0 + (r .bit + b + 7) / 8 → codesFrom b payload (placeOf r) ≡ []
   taken-end h = codes-none b payload (placeOf r) (c .some) (omega (arith, w .inside))
 
-  module _ {code : ℕ} (ec : code ≡ numberAt payload (r .octet .0 * 8 + r .bit) b) (room : (r .bit + b + 7) / 8 ≤ length payload - r .octet .0) where
+  module _ {code : ℕ} (ec : code ≡ numberAt payload (r .octet .0 * 8 + r .bit) b) (room : r .octet .0 + (r .bit + b + 7) / 8 ≤ length payload) where
     -- behind the code
     abbrev next : ℕ → ℕ → Run
     next level weight = record { octet = record { 0 = r .octet .0 + (r .bit + b) / 8 }; bit = (r .bit + b) % 8; level = level; weight = weight }
@@ -39,7 +41,7 @@ module _ {b M : ℕ} {payload : List ℕ} {r : Run} (c : Coding b M) (w : Within
     codes-are level weight = rw (place-next level weight, ec) (codes-next b payload (placeOf r) (c .some) inside)
 
     -- a level
-    pub taken-level : code ≤ M → More b M payload r 1 (next code 1)
+    taken-level : code ≤ M → More b M payload r 1 (next code 1)
     unfolding levelsOf
     taken-level l = record {
       within = next-within code 1 (lt-of-lt-of-le (omega (arith, c .low)) (pow-mono {j = 15} (c .few))) (omega arith);
@@ -55,7 +57,7 @@ module _ {b M : ℕ} {payload : List ℕ} {r : Run} (c : Coding b M) (w : Within
     }
 
     -- a repeat code
-    pub taken-repeat : (top : ℕ) {n m : ℕ} → M < code → (top + 1 ≡ 2 ^ b) × (top < 2 ^ 15) → n ≡ min ((code - M - 1) * r .weight) cap → m ≡ min ((top - M) * r .weight) cap
+    taken-repeat : (top : ℕ) {n m : ℕ} → M < code → (top + 1 ≡ 2 ^ b) × (top < 2 ^ 15) → (n ≡ (code - M - 1) * r .weight) × (n < 2 ^ 56) → m ≡ min ((top - M) * r .weight) cap
         → More b M payload r n (next (r .level) m)
     unfolding levelsOf
     taken-repeat top {n} {m} l et en em =
@@ -67,11 +69,26 @@ module _ {b M : ℕ} {payload : List ℕ} {r : Run} (c : Coding b M) (w : Within
           exact = λ weight e. record {
             count = (code - M - 1) * weight;
             after = weight * baseOf b M;
-            count-is = en ∙ rw e (min-times (code - M - 1) weight cap);
+            count-is = rw (en .0, e) (min-times (code - M - 1) weight cap);
             after-is = em ∙ rw (e, base, mul-comm weight (baseOf b M)) (min-times (baseOf b M) weight cap);
             levels = rw (codes-are (r .level) m, lt-ltb M code l);
           };
         }
+
+    -- one of them, as the code says
+    pub taken-code : (top : ℕ) {d raised held more level weight one : ℕ} → (top + 1 ≡ 2 ^ b) × (top < 2 ^ 15)
+        → (raised ≡ (top - M) * r .weight) × (raised < 2 ^ 56) → held ≡ min raised cap → d ≡ code - M - 1 → (more ≡ d * r .weight) × (more < 2 ^ 56)
+        → level ≡ cond (leb code M) code (r .level) → weight ≡ cond (leb code M) 1 held → (one ≡ cond (leb code M) 1 0) × (one ≤ 1)
+        → More b M payload r (one + more) (next level weight)
+    taken-code top {d} {raised} {held} {more} {level} {weight} {one} et er eh ed em el ew eo = by-test (leb code M) refl
+      where
+        by-test : (t : Bool) → leb code M ≡ t → More b M payload r (one + more) (next level weight)
+        by-test true h =
+            let zero-digit : d ≡ 0 = omega (arith, leb-true code M h) in
+            let none : more ≡ 0 = em .0 ∙ rw zero-digit (zero-mul (r .weight)) in
+            rw (el, ew, eo .0, none, h) (taken-level (leb-true code M h))
+        by-test false h =
+            rw (el, ew, eo .0, h, zero-add more) (taken-repeat top (leb-false code M h) et (rw ed at em) (rw (er .0) at eh))
 
 -- ---- what a caller knows of a turn
 
@@ -82,7 +99,7 @@ module _ (b M : ℕ) (payload : List ℕ) (r : Run) {x : Turn} (t : Told b M pay
   pub told-end : x ≡ turn.End → codesFrom b payload (placeOf r) ≡ []
   told-end e = subst (Told b M payload r) e t
 
-  pub told-few : {n : ℕ} {next : Run} → x ≡ turn.Points n next → n ≤ cap
+  pub told-few : {n : ℕ} {next : Run} → x ≡ turn.Points n next → n < 2 ^ 57
   told-few e = told-more e .few
 
   pub told-less : {n : ℕ} {next : Run} → x ≡ turn.Points n next → length payload * 8 - placeOf next < length payload * 8 - placeOf r

@@ -41,7 +41,7 @@ pub record Within (b M : ℕ) (payload : List ℕ) (r : Run) : Type 0 where
 pub record Exactly (b M : ℕ) (payload : List ℕ) (r : Run) (weight n : ℕ) (next : Run) : Type 0 where
   pub count : ℕ
   pub after : ℕ
-  pub count-is : n ≡ min count cap
+  pub count-is : min n cap ≡ min count cap
   pub after-is : next .weight ≡ min after cap
   pub levels : levelsOf M (baseOf b M) (r .level) weight (codesFrom b payload (placeOf r))
       ≡ replicate count (next .level) ++ levelsOf M (baseOf b M) (next .level) after (codesFrom b payload (placeOf next))
@@ -49,7 +49,7 @@ pub record Exactly (b M : ℕ) (payload : List ℕ) (r : Run) (weight n : ℕ) (
 pub record More (b M : ℕ) (payload : List ℕ) (r : Run) (n : ℕ) (next : Run) : Type 0 where
   pub within : Within b M payload next
   pub ahead : placeOf r < placeOf next
-  pub few : n ≤ cap
+  pub few : n < 2 ^ 57
   pub exact : (weight : ℕ) → r .weight ≡ min weight cap → Exactly b M payload r weight n next
 
 -- what a turn tells

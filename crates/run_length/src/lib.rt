@@ -1,5 +1,6 @@
 // Run-length, template 7.200: codes are levels, or repeat the last level in digits of a base.
 ghost use mathlib.Core.Path.{_≡_};
+ghost use mathlib.Core.Bool.{cond};
 ghost use mathlib.Core.List.{flatMap};
 ghost use Prim.Native.Nat.{_+_, _-_, _*_, _<_, _≤_, _^_, min};
 ghost use lib.ListN.{length, replicate};
@@ -26,11 +27,12 @@ fn capped(x: usize) -> usize
     x
 }
 
-fn capped_product(x: usize, y: usize) -> usize
-    requires { ⌜ (x < 2 ^ 32) × (y ≤ cap) ⌝ }
-    ensures { λ r. ⌜ r ≡ min (x * y) cap ⌝ }
+// A product that is far from wrapping.
+fn product(x: usize, weight: usize) -> usize
+    requires { ⌜ (x < 2 ^ 32) × (weight ≤ cap) ⌝ }
+    ensures { λ r. ⌜ (r ≡ x * weight) × (r < 2 ^ 56) ⌝ }
 {
-    capped(x * y)
+    x * weight
 }
 
 // Where the next code stands, the last level, and the weight of the next repeat code.
@@ -47,39 +49,58 @@ pub enum Turn {
     End,
 }
 
-// Takes the next code. This is where reading ends: fewer than `bits` bits at the end are ignored.
+// One of two numbers.
+fn chosen(first: bool, yes: usize, no: usize) -> usize
+    ensures { λ r. ⌜ r ≡ cond first yes no ⌝ }
+{
+    if first {
+        return yes;
+    }
+    no
+}
+
+fn one_if(first: bool) -> usize
+    ensures { λ r. ⌜ (r ≡ cond first 1 0) × (r ≤ 1) ⌝ }
+{
+    if first {
+        return 1;
+    }
+    0
+}
+
+// What a code is above the greatest level, counted from 0; 0 for a level too.
+fn digit(code: usize, greatest: usize) -> usize
+    ensures { λ r. ⌜ r ≡ code - greatest - 1 ⌝ }
+{
+    if greatest < code {
+        return code - greatest - 1;
+    }
+    0
+}
+
+// Takes the next code. This is where reading ends: fewer than `bits` bits at the end are ignored. Levels and repeat codes
+// alternate as the map has it, so a branch between them would be guessed wrong: both are reckoned, and one is chosen.
 fn taken(bits: usize, greatest: usize, payload: &[u8], run: Run) -> Turn
     requires { ⌜ Coding bits greatest × Within bits greatest (now payload) run ⌝ }
     ensures { λ r. ⌜ Told bits greatest (now (payload .entry)) run r ⌝ }
 {
     let at = run.octet.0;
     let end = run.bit + bits;
-    if payload.len() - at < (end + 7) / 8 {
+    if payload.len() < at + (end + 7) / 8 {
         return Turn::End;
     }
     let code = stream::read_in_octet(payload, run.octet, run.bit, bits) as usize;
-    let octet = OctetPlace(at + end / 8);
-    if code <= greatest {
-        return Turn::Points(
-            1,
-            Run {
-                octet,
-                bit: end % 8,
-                level: code,
-                weight: 1,
-            },
-        );
-    }
+    let is_level = code <= greatest;
     let base = power_below(bits) - greatest;
-    Turn::Points(
-        capped_product(code - greatest - 1, run.weight),
-        Run {
-            octet,
-            bit: end % 8,
-            level: run.level,
-            weight: capped_product(base, run.weight),
-        },
-    )
+    let raised = capped(product(base, run.weight));
+    let more = product(digit(code, greatest), run.weight);
+    let next = Run {
+        octet: OctetPlace(at + end / 8),
+        bit: end % 8,
+        level: chosen(is_level, code, run.level),
+        weight: chosen(is_level, 1, raised),
+    };
+    Turn::Points(one_if(is_level) + more, next)
 }
 
 // 2^b − 1.
@@ -102,18 +123,6 @@ fn start() -> Run
     }
 }
 
-// Stores a level at the places from one to another.
-fn repeat(levels: &mut [u8], from: usize, to: usize, level: u16)
-    requires { ⌜ to * levelSize ≤ length (now levels) ⌝ }
-    ensures { λ _. ⌜ now (levels .exit) ≡ sets (now (levels .entry)) (from * levelSize) (flatMap levelOctets (replicate (to - from) level)) ⌝ }
-{
-    let mut k = from;
-    while k < to {
-        layout::store_level(levels, k, level);
-        k += 1;
-    }
-}
-
 fn smaller(x: usize, y: usize) -> usize
     ensures { λ r. ⌜ r ≡ min x y ⌝ }
 {
@@ -121,6 +130,22 @@ fn smaller(x: usize, y: usize) -> usize
         return x;
     }
     y
+}
+
+// Stores a level at the places from one to another, as far as there is room.
+fn repeat(levels: &mut [u8], from: usize, to: usize, room: usize, level: u16)
+    requires { ⌜ room * levelSize ≤ length (now levels) ⌝ }
+    ensures { λ _. ⌜ now (levels .exit) ≡ sets (now (levels .entry)) (from * levelSize) (flatMap levelOctets (replicate (min to room - from) level)) ⌝ }
+{
+    if room <= from {
+        return;
+    }
+    let end = smaller(to, room);
+    let mut k = from;
+    while k < end {
+        layout::store_level(levels, k, level);
+        k += 1;
+    }
 }
 
 // Takes all codes: stores the first `room` levels, and answers how many there are, or the cap where they are more. With no
@@ -136,7 +161,7 @@ fn walked(bits: usize, greatest: usize, payload: &[u8], levels: &mut [u8], room:
             return points;
         };
         let end = capped(points + more);
-        repeat(levels, points, smaller(end, room), next.level as u16);
+        repeat(levels, points, end, room, next.level as u16);
         points = end;
         run = next;
     }

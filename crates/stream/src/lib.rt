@@ -12,22 +12,21 @@ use format::OctetPlace;
 use format::Refusal;
 
 // The octet at a place, or 0 past the end.
-fn octet_at(octets: &[u8], at: usize) -> u64
+fn octet_at(octets: &[u8], at: usize) -> u8
     ensures { λ r. ⌜ (r ≡ getD (now (octets .entry)) at 0) × (r < 256) ⌝ }
 {
-    if at < octets.len() {
-        places::wide(octets[at])
-    } else {
-        0
-    }
+    if at < octets.len() { octets[at] } else { 0 }
 }
 
-// Five octets, the first the most significant, as one number.
-fn five(a: u64, b: u64, c: u64, d: u64, e: u64) -> u64
-    requires { ⌜ (a < 256) × (b < 256) × (c < 256) × (d < 256) × (e < 256) ⌝ }
+// Five octets as one number, the last of them first: read in this order, the last four become one load of the machine.
+fn five(e: u8, d: u8, c: u8, b: u8, a: u8) -> u64
     ensures { λ r. ⌜ r ≡ (((a * 256 + b) * 256 + c) * 256 + d) * 256 + e ⌝ }
 {
-    (((a * 256 + b) * 256 + c) * 256 + d) * 256 + e
+    (e as u64)
+        + (d as u64) * 256
+        + (c as u64) * 65536
+        + (b as u64) * 16777216
+        + (a as u64) * 4294967296
 }
 
 // Five octets from a place on: no number of up to 32 bits touches more. Where they are all there none is tested by itself.
@@ -38,19 +37,19 @@ fn gathered(octets: &[u8], place: OctetPlace) -> u64
     let at = place.0;
     if octets.len() < at + 5 {
         return five(
-            octet_at(octets, at),
-            octet_at(octets, at + 1),
-            octet_at(octets, at + 2),
-            octet_at(octets, at + 3),
             octet_at(octets, at + 4),
+            octet_at(octets, at + 3),
+            octet_at(octets, at + 2),
+            octet_at(octets, at + 1),
+            octet_at(octets, at),
         );
     }
     five(
-        places::wide(octets[at]),
-        places::wide(octets[at + 1]),
-        places::wide(octets[at + 2]),
-        places::wide(octets[at + 3]),
-        places::wide(octets[at + 4]),
+        octets[at + 4],
+        octets[at + 3],
+        octets[at + 2],
+        octets[at + 1],
+        octets[at],
     )
 }
 

@@ -2,7 +2,7 @@
 use Prim.Native.Nat.{_-_, _*_, _^_, _≤_, _<_}
 use lib.ListN.{length}
 use borrow.Author.Needs.{needs}
-use Rattle.run_length.specs.Runs.{cap, placeOf}
+use Rattle.run_length.specs.Runs.{placeOf}
 use Rattle.run_length.proofs.Turns.{told-more, told-end, told-few, told-less, told-level}
 use Rattle.run_length.proofs.Passes.{Walking, walking-start, walking-more, walking-end}
 use native.Mathlib.Omega.{arith}
@@ -36,7 +36,7 @@ same-length c = c .before .before .before .loop .inv .long
 returns : tie.Need-returns Inv-loop μ-loop
 returns c = search (walking-end, told-end)
 
-few : (c : tie.After-known-told Inv-loop μ-loop) → c .before .more .given .0 .0 ≤ cap
+few : (c : tie.After-known-told Inv-loop μ-loop) → c .before .more .given .0 .0 < 2 ^ 57
 few c = search told-few
 
 add-capped : tie.Need-add-capped Inv-loop μ-loop
@@ -45,10 +45,7 @@ add-capped c = omega (arith, few c)
 capped-requires : tie.Need-capped-requires Inv-loop μ-loop
 capped-requires c κs = tt
 
-smaller-requires : tie.Need-smaller-requires Inv-loop μ-loop
-smaller-requires c κs = tt
-
-level : (c : tie.After-struct-known Inv-loop μ-loop) → c .before .before .before .before .before .more .given .0 .1 .0 .level < 2 ^ 15
+level : (c : tie.After-struct-known Inv-loop μ-loop) → c .before .before .before .before .more .given .0 .1 .0 .level < 2 ^ 15
 level c = search told-level
 
 cast-repeat : tie.Need-cast-repeat Inv-loop μ-loop
@@ -78,7 +75,6 @@ walked-spec =
     returns
     add-capped
     capped-requires
-    smaller-requires
     cast-repeat
     repeat-requires
     loop-less

@@ -1,22 +1,19 @@
 -- `stream::octet_at` meets its contract. Assumes nothing.
-use mathlib.Core.Path.{sym}
+use mathlib.Core.Path.{refl, sym}
 use lib.ListN.{List·getD-eq-default}
 use native.Mathlib.Omega.{arith}
 use borrow.Author.Needs.{needs}
 use Rattle.stream.proofs.octet_at.Statement.{statement}
 use Rattle.stream.proofs.octet_at.Tie as tie
 
-shared-slice-read-wide : tie.Need-shared-slice-read-wide
-shared-slice-read-wide c = search needs
-
-wide-requires : tie.Need-wide-requires
-wide-requires c κs = search needs
+shared-slice-read-result : tie.Need-shared-slice-read-result
+shared-slice-read-result c = search needs
 
 returns : tie.Need-returns
-returns c = search needs
+returns c = (refl, omega (arith, c .shared-slice-known .given (c .before .before .args .at)))
 
 returns-2 : tie.Need-returns-2
-returns-2 c = (sym (List·getD-eq-default (c .before .before .args .octets .now) 0 (c .if1 .left)), search needs)
+returns-2 c = (sym (List·getD-eq-default (c .before .args .octets .now) 0 (c .if1 .left)), omega arith)
 
 pub octet-at-spec : {M : Type 1} → statement M
-octet-at-spec = tie.close (tie.spec shared-slice-read-wide wide-requires returns returns-2)
+octet-at-spec = tie.close (tie.spec shared-slice-read-result returns returns-2)
