@@ -1,0 +1,159 @@
+// Group fields under 5.2 and 5.3: where they are, what the groups come to, and the first refusal that applies, as far as 7
+// for the values.
+ghost use mathlib.Core.Path.{_≡_};
+ghost use mathlib.Core.List.{_++_};
+ghost use Prim.Native.Nat.{_+_, _*_, _<_, _≤_, _^_};
+ghost use lib.ListN.{length};
+ghost use Rattle.format.specs.Bits.{numberAt, spanOf};
+ghost use Rattle.format.specs.Template.{descriptorsEnd};
+ghost use Rattle.format.specs.Unpacking.{codesOf, referenceOf, groupWidth, groupLength, locatedBy, groupRefusals, locatedRefusals, locate52, partOf};
+ghost use Rattle.format.specs.Differences.{locate53};
+ghost use Rattle.group_fields.specs.Walk.{Placed, Walkable};
+use format::BitPlace;
+use format::Differencing;
+use format::Located;
+use format::OctetPlace;
+use format::Part;
+use format::Places;
+use format::Refusal;
+use format::Template;
+
+// Where the references, the width codes, the length codes and the values begin.
+pub struct Fields {
+    pub references: OctetPlace,
+    pub widths: OctetPlace,
+    pub lengths: OctetPlace,
+    pub values: OctetPlace,
+}
+
+pub fn small(x: u8) -> usize
+    ensures { λ r. ⌜ (r ≡ x) × (r < 256) ⌝ }
+{
+    x as usize
+}
+
+pub fn size(x: u32) -> usize
+    ensures { λ r. ⌜ (r ≡ x) × (r < 2 ^ 32) ⌝ }
+{
+    x as usize
+}
+
+// A product that is far from wrapping.
+pub fn times(x: usize, y: usize) -> usize
+    requires { ⌜ (x < 2 ^ 32) × (y < 256) ⌝ }
+    ensures { λ r. ⌜ (r ≡ x * y) × (r < 2 ^ 40) ⌝ }
+{
+    x * y
+}
+
+// The octets that a field of all groups spans.
+fn span(groups: u32, width: u8) -> usize
+    ensures { λ r. ⌜ (r ≡ spanOf 0 width groups) × (r < 2 ^ 40) ⌝ }
+{
+    (times(size(groups), small(width)) + 7) / 8
+}
+
+// "each starting on an octet": the references at octet `start`.
+pub fn fields_of(template: Template, start: usize) -> Fields
+    requires { ⌜ start ≤ 12 ⌝ }
+    ensures { λ r. ⌜ Placed start template r ⌝ }
+{
+    let widths = start + span(template.groups, template.width);
+    let lengths = widths + span(template.groups, template.widths.bits);
+    let values = lengths + span(template.groups, template.lengths.bits);
+    Fields {
+        references: OctetPlace(start),
+        widths: OctetPlace(widths),
+        lengths: OctetPlace(lengths),
+        values: OctetPlace(values),
+    }
+}
+
+// Number g of a group field.
+fn code(payload: &[u8], field: OctetPlace, g: usize, width: u8) -> usize
+    requires { ⌜ (field .0 < 2 ^ 42) × (g < 4194304) × (width ≤ 32) ⌝ }
+    ensures { λ r. ⌜ (r ≡ numberAt (now (payload .entry)) (field .0 * 8 + g * width) width) × (r < 2 ^ 32) ⌝ }
+{
+    let bits = small(width);
+    size(stream::read_number(payload, BitPlace(field.0 * 8 + times(g, bits)), bits))
+}
+
+pub fn reference_of(template: Template, payload: &[u8], fields: Fields, g: usize) -> usize
+    requires { ⌜ Walkable template fields × (g < template .groups) ⌝ }
+    ensures { λ r. ⌜ (r ≡ referenceOf (codesOf (fields .references .0) template (now (payload .entry))) g) × (r < 2 ^ 32) ⌝ }
+{
+    let field = fields.references;
+    code(payload, field, g, template.width)
+}
+
+// "Width = width code + width reference."
+pub fn width_of(template: Template, payload: &[u8], fields: Fields, g: usize) -> usize
+    requires { ⌜ Walkable template fields × (g < template .groups) ⌝ }
+    ensures { λ r. ⌜ (r ≡ groupWidth template (codesOf (fields .references .0) template (now (payload .entry))) g) × (r < 2 ^ 33) ⌝ }
+{
+    let field = fields.widths;
+    code(payload, field, g, template.widths.bits) + small(template.widths.reference)
+}
+
+// "length code × increment + length reference"
+fn coded_length(code: usize, increment: u8, reference: u32) -> usize
+    requires { ⌜ code < 2 ^ 32 ⌝ }
+    ensures { λ r. ⌜ (r ≡ code * increment + reference) × (r < 2 ^ 41) ⌝ }
+{
+    times(code, small(increment)) + size(reference)
+}
+
+// "Length = length code × increment + length reference, except that the last group's length is the template's own number".
+pub fn length_of(template: Template, payload: &[u8], fields: Fields, g: usize) -> usize
+    requires { ⌜ Walkable template fields × (g < template .groups) ⌝ }
+    ensures { λ r. ⌜ (r ≡ groupLength template (codesOf (fields .references .0) template (now (payload .entry))) g) × (r < 2 ^ 41) ⌝ }
+{
+    if size(template.groups) <= g + 1 {
+        return size(template.lengths.last);
+    }
+    let field = fields.lengths;
+    let code = code(payload, field, g, template.lengths.bits);
+    coded_length(code, template.lengths.increment, template.lengths.reference)
+}
+
+// "8, 7 for the values": no group may be too wide or too long, and the payload ends with or after the last value's octet.
+fn walked(template: Template, payload: &[u8], fields: Fields) -> Located
+    requires { ⌜ Walkable template fields ⌝ }
+    ensures { λ r. ⌜ r ≡ locatedBy (groupRefusals (fields .references .0) template (now (payload .entry))) (fields .references .0) template (now (payload .entry)) ⌝ }
+{
+    let groups = size(template.groups);
+    let mut points = 0usize;
+    let mut bits = 0usize;
+    let mut g = 0usize;
+    while g < groups {
+        let width = width_of(template, payload, fields, g);
+        if 31 < width {
+            return Located::Refused(Refusal::GroupSize);
+        }
+        let length = length_of(template, payload, fields, g);
+        if 4294967295 < length {
+            return Located::Refused(Refusal::GroupSize);
+        }
+        points += length;
+        bits += times(length, width);
+        g += 1;
+    }
+    let references = fields.references;
+    let widths = fields.widths;
+    let lengths = fields.lengths;
+    let values = fields.values;
+    let end = OctetPlace(values.0 + (bits + 7) / 8);
+    if payload.len() < end.0 {
+        return Located::Refused(Refusal::Short);
+    }
+    Located::At(
+        Places {
+            references,
+            widths,
+            lengths,
+            values,
+            end,
+        },
+        points,
+    )
+}
