@@ -1,8 +1,15 @@
 -- What the walk over the groups is asked. Assumes nothing.
 use Prim.Native.Nat.{ℕ, _≤_, _<_, _^_}
 use mathlib.Core.Path.{_≡_}
-use Rattle.format.specs.Template.{widthsAt, lengthsAt, valuesAt}
+use mathlib.Core.List.{List, [], _∷_, _++_}
+use lib.Dec.{ltb}
+use lib.ListN.{length}
+use Rattle.format.specs.Refusals.{Row, _gives_}
+use Rattle.format.specs.Template.{widthsAt, lengthsAt, valuesAt, descriptorsEnd, descriptorRefusals}
+use Rattle.format.specs.Unpacking.{locatedRefusals}
+use Rattle.format.specs.declared.Refusal.the-variants.{Short}
 use Rattle.format.specs.declared.Template.{Template}
+use Rattle.format.specs.declared.Differencing.{Differencing}
 use Rattle.group_fields.specs.declared.Fields.{Fields}
 
 -- the fields of a template whose references begin at octet `start`
@@ -28,3 +35,8 @@ pub record Passing (t : Template) : Type 0 where
 pub record Walkable (t : Template) (f : Fields) : Type 0 where
   pub passing : Passing t
   pub placed : Placed (f .references .0) t f
+
+-- "4, 7 for descriptors, then from 6 on as for 5.2"
+abbrev pub describedRefusals : Template → Differencing → List ℕ → List Row
+describedRefusals t d payload =
+    descriptorRefusals d ++ (ltb (length payload) (descriptorsEnd d) gives Short ∷ []) ++ locatedRefusals (descriptorsEnd d) t payload

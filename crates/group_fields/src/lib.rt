@@ -6,9 +6,9 @@ ghost use Prim.Native.Nat.{_+_, _*_, _<_, _≤_, _^_};
 ghost use lib.ListN.{length};
 ghost use Rattle.format.specs.Bits.{numberAt, spanOf};
 ghost use Rattle.format.specs.Template.{descriptorsEnd};
-ghost use Rattle.format.specs.Unpacking.{codesOf, referenceOf, groupWidth, groupLength, locatedBy, groupRefusals, locatedRefusals, locate52, partOf};
+ghost use Rattle.format.specs.Unpacking.{codesOf, referenceOf, groupWidth, groupLength, locatedBy, fieldsShort, groupRefusals, locatedRefusals, locate52, partOf};
 ghost use Rattle.format.specs.Differences.{locate53};
-ghost use Rattle.group_fields.specs.Walk.{Placed, Walkable};
+ghost use Rattle.group_fields.specs.Walk.{Placed, Passing, Walkable, describedRefusals};
 use format::BitPlace;
 use format::Differencing;
 use format::Located;
@@ -156,4 +156,96 @@ fn walked(template: Template, payload: &[u8], fields: Fields) -> Located
         },
         points,
     )
+}
+
+// "7 for the group fields", then the groups.
+fn fields_located(template: Template, start: usize, payload: &[u8]) -> Located
+    requires { ⌜ Passing template × (start ≤ 12) ⌝ }
+    ensures { λ r. ⌜ r ≡ locatedBy (fieldsShort start template (now (payload .entry)) ++ groupRefusals start template (now (payload .entry))) start template (now (payload .entry)) ⌝ }
+{
+    let fields = fields_of(template, start);
+    if payload.len() < fields.values.0 {
+        return Located::Refused(Refusal::Short);
+    }
+    walked(template, payload, fields)
+}
+
+// From 6 on, which 5.2 and 5.3 share: the references begin at octet `start`.
+pub fn located(template: Template, start: usize, payload: &[u8]) -> Located
+    requires { ⌜ start ≤ 12 ⌝ }
+    ensures { λ r. ⌜ r ≡ locatedBy (locatedRefusals start template (now (payload .entry))) start template (now (payload .entry)) ⌝ }
+{
+    if template.groups == 0 {
+        return Located::Refused(Refusal::GroupCount);
+    }
+    if 4194304 < template.groups {
+        return Located::Refused(Refusal::GroupCount);
+    }
+    if 31 < template.width {
+        return Located::Refused(Refusal::Width);
+    }
+    if 32 < template.widths.bits {
+        return Located::Refused(Refusal::Width);
+    }
+    if 32 < template.lengths.bits {
+        return Located::Refused(Refusal::Width);
+    }
+    fields_located(template, start, payload)
+}
+
+// "Order for 5.2: 1, 2, 6, 5, 7 for the group fields, 8, 7 for the values".
+pub fn located_complex(template: Template, payload: &[u8]) -> Located
+    ensures { λ r. ⌜ r ≡ locate52 template (now (payload .entry)) ⌝ }
+{
+    if template.splitting != 1 {
+        return Located::Refused(Refusal::Splitting);
+    }
+    if 2 < template.management {
+        return Located::Refused(Refusal::Management);
+    }
+    located(template, 0, payload)
+}
+
+// Where the descriptors end: as many first values as the order says, and the minimum.
+pub fn descriptors_end(differencing: Differencing) -> usize
+    ensures { λ r. ⌜ (r ≡ descriptorsEnd differencing) × (r < 2 ^ 40) ⌝ }
+{
+    times(small(differencing.order) + 1, small(differencing.octets))
+}
+
+// "4, 7 for descriptors, then from 6 on as for 5.2".
+fn descriptors_located(template: Template, differencing: Differencing, payload: &[u8]) -> Located
+    requires { ⌜ differencing .order ≤ 2 ⌝ }
+    ensures { λ r. ⌜ r ≡ locatedBy (describedRefusals template differencing (now (payload .entry))) (descriptorsEnd differencing) template (now (payload .entry)) ⌝ }
+{
+    if differencing.octets == 0 {
+        return Located::Refused(Refusal::Descriptors);
+    }
+    if 4 < differencing.octets {
+        return Located::Refused(Refusal::Descriptors);
+    }
+    let start = descriptors_end(differencing);
+    if payload.len() < start {
+        return Located::Refused(Refusal::Short);
+    }
+    located(template, start, payload)
+}
+
+// "For 5.3: 3, 1, 2, 4, 7 for descriptors, then from 6 on as for 5.2".
+pub fn located_spatial(template: Template, differencing: Differencing, payload: &[u8]) -> Located
+    ensures { λ r. ⌜ r ≡ locate53 template differencing (now (payload .entry)) ⌝ }
+{
+    if differencing.order == 0 {
+        return Located::Refused(Refusal::Order);
+    }
+    if 2 < differencing.order {
+        return Located::Refused(Refusal::Order);
+    }
+    if template.splitting != 1 {
+        return Located::Refused(Refusal::Splitting);
+    }
+    if 2 < template.management {
+        return Located::Refused(Refusal::Management);
+    }
+    descriptors_located(template, differencing, payload)
 }
