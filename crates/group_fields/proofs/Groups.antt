@@ -1,17 +1,15 @@
 -- References, widths and lengths, out of what is read. Assumes nothing.
-use mathlib.Core.Path.{_≡_, refl, sym, ap, _∙_}
-use mathlib.Core.Bool.{Bool, true, false, and-false, or-true}
+use mathlib.Core.Path.{_≡_, sym, _∙_}
 use mathlib.Core.List.{List}
 use Prim.Native.Nat.{ℕ, suc, _+_, _-_, _*_, _^_, _≤_, _<_}
 use native.Mathlib.Omega.{arith}
-use lib.ListN.{length, getD}
-use borrow.Author.Tests.{lt-ltb, le-ltb, eq-eqb, ne-eqb}
+use borrow.Author.Tests.{eq-eqb, ne-eqb}
 use Rattle.format.specs.Bits.{numberAt}
 use Rattle.format.specs.Template.{widthsAt, lengthsAt}
-use Rattle.format.specs.Unpacking.{codesOf, referenceOf, groupWidth, groupLength, wrongGroup}
+use Rattle.format.specs.Unpacking.{codesOf, referenceOf, groupWidth, groupLength}
 use Rattle.format.specs.declared.Template.{Template}
 use Rattle.laws.specs.Lists.{getD-listed}
-use Rattle.group_fields.specs.Walk.{Placed, Walkable}
+use Rattle.group_fields.specs.Walk.{Walkable}
 use Rattle.group_fields.specs.declared.Fields.{Fields}
 
 module _ {t : Template} {f : Fields} (h : Walkable t f) (payload : List ℕ) (g : ℕ) where

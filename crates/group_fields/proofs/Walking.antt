@@ -1,5 +1,5 @@
 -- The walk over all groups. Assumes nothing.
-use mathlib.Core.Path.{_≡_, refl, ap, ap₂, sym, _∙_}
+use mathlib.Core.Path.{_≡_, refl, ap₂, _∙_}
 use mathlib.Core.Bool.{Bool, true, false, and-false, or-true}
 use mathlib.Core.List.{List}
 use Prim.Native.Nat.{ℕ, suc, _+_, _*_, _/_, _^_, _≤_, _<_}
@@ -10,7 +10,6 @@ use Rattle.format.specs.Lists.{listed, total, anyOf}
 use Rattle.format.specs.Refusals.{Row, first}
 use Rattle.format.specs.Unpacking.{Codes, codesOf, groupWidth, groupLength, pointsBefore, bitsBefore, wrongGroup, placesOf, groupRefusals, locatedBy}
 use Rattle.format.specs.declared.Template.{Template}
-use Rattle.format.specs.declared.Places.{Places}
 use Rattle.format.specs.declared.Located.the-variants as located
 use Rattle.format.specs.declared.Refusal.the-variants.{GroupSize, Short}
 use Rattle.laws.specs.First.{decides, clears, tests}

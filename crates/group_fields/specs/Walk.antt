@@ -1,4 +1,4 @@
--- What the walk over the groups is asked. Assumes nothing.
+-- What the inner functions are asked, and which rows are left to them. Assumes nothing.
 use Prim.Native.Nat.{ℕ, _≤_, _<_, _^_}
 use mathlib.Core.Path.{_≡_}
 use mathlib.Core.List.{List, [], _∷_, _++_}

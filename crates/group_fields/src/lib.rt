@@ -3,11 +3,11 @@
 ghost use mathlib.Core.Path.{_≡_};
 ghost use mathlib.Core.List.{_++_};
 ghost use Prim.Native.Nat.{_+_, _*_, _<_, _≤_, _^_};
-ghost use lib.ListN.{length};
 ghost use Rattle.format.specs.Bits.{numberAt, spanOf};
 ghost use Rattle.format.specs.Template.{descriptorsEnd};
 ghost use Rattle.format.specs.Unpacking.{codesOf, referenceOf, groupWidth, groupLength, locatedBy, fieldsShort, groupRefusals, locatedRefusals, locate52, partOf};
 ghost use Rattle.format.specs.Differences.{locate53};
+ghost use Rattle.group_fields.specs.Parts.{boundsOf};
 ghost use Rattle.group_fields.specs.Walk.{Placed, Passing, Walkable, describedRefusals};
 use format::BitPlace;
 use format::Differencing;
@@ -24,6 +24,12 @@ pub struct Fields {
     pub widths: OctetPlace,
     pub lengths: OctetPlace,
     pub values: OctetPlace,
+}
+
+// Where a part begins and ends.
+pub struct Bounds {
+    pub from: OctetPlace,
+    pub to: OctetPlace,
 }
 
 pub fn small(x: u8) -> usize
@@ -235,17 +241,77 @@ fn descriptors_located(template: Template, differencing: Differencing, payload: 
 pub fn located_spatial(template: Template, differencing: Differencing, payload: &[u8]) -> Located
     ensures { λ r. ⌜ r ≡ locate53 template differencing (now (payload .entry)) ⌝ }
 {
-    if differencing.order == 0 {
+    let order = differencing.order;
+    let splitting = template.splitting;
+    let management = template.management;
+    if order == 0 {
         return Located::Refused(Refusal::Order);
     }
-    if 2 < differencing.order {
+    if 2 < order {
         return Located::Refused(Refusal::Order);
     }
-    if template.splitting != 1 {
+    if splitting != 1 {
         return Located::Refused(Refusal::Splitting);
     }
-    if 2 < template.management {
+    if 2 < management {
         return Located::Refused(Refusal::Management);
     }
     descriptors_located(template, differencing, payload)
+}
+
+// Where a part begins and ends; a payload that is refused has none.
+fn part_bounds(located: Located, part: Part) -> Bounds
+    ensures { λ r. ⌜ r ≡ boundsOf part located ⌝ }
+{
+    let Located::At(places, points) = located else {
+        let from = OctetPlace(0);
+        let to = OctetPlace(0);
+        return Bounds { from, to };
+    };
+    match part {
+        Part::References => {
+            let from = places.references;
+            let to = places.widths;
+            Bounds { from, to }
+        }
+        Part::Widths => {
+            let from = places.widths;
+            let to = places.lengths;
+            Bounds { from, to }
+        }
+        Part::Lengths => {
+            let from = places.lengths;
+            let to = places.values;
+            Bounds { from, to }
+        }
+        Part::Values => {
+            let from = places.values;
+            let to = places.end;
+            Bounds { from, to }
+        }
+    }
+}
+
+// "The last four can be asked for as parts of the caller's payload".
+pub fn part_complex(template: Template, payload: &[u8], part: Part) -> &[u8]
+    ensures { λ r. ⌜ now r ≡ partOf part (now (payload .entry)) (locate52 template (now (payload .entry))) ⌝ }
+{
+    let bounds = part_bounds(located_complex(template, payload), part);
+    let from = bounds.from.0;
+    let to = bounds.to.0;
+    &payload[from..to]
+}
+
+pub fn part_spatial(
+    template: Template,
+    differencing: Differencing,
+    payload: &[u8],
+    part: Part,
+) -> &[u8]
+    ensures { λ r. ⌜ now r ≡ partOf part (now (payload .entry)) (locate53 template differencing (now (payload .entry))) ⌝ }
+{
+    let bounds = part_bounds(located_spatial(template, differencing, payload), part);
+    let from = bounds.from.0;
+    let to = bounds.to.0;
+    &payload[from..to]
 }

@@ -1,6 +1,5 @@
 -- `group_fields::fields_located` meets its contract. Assumes nothing.
 use Rattle.group_fields.proofs.Order.{walkable, fields-short, fields-walked}
-use native.Mathlib.Omega.{arith}
 use borrow.Author.Needs.{needs}
 use Rattle.group_fields.proofs.fields_located.Statement.{statement}
 use Rattle.group_fields.proofs.fields_located.Tie as tie
