@@ -33,7 +33,7 @@ module _ {t : Template} {f : Fields} (h : Walkable t f) (payload : List ℕ) (g 
       simp (ne-eqb (suc g) (t .groups) (λ z. omega arith))
       (rw (er .0, e .0, h .placed .lengths, getD-listed (t .groups - 1) (λ k. numberAt payload (lengthsAt (f .references .0) t * 8 + k * t .lengths .bits) (t .lengths .bits)) 0 g (omega arith)))
 
-pub length-last : (t : Template) (start : ℕ) (payload : List ℕ) (g : ℕ) {n last : ℕ} → (n ≡ t .groups) × (n < 2 ^ 32) → n ≤ g + 1 → g < t .groups → (last ≡ t .lengths .last) × (last < 2 ^ 32)
+pub length-last : (t : Template) (start : ℕ) (payload : List ℕ) (g : ℕ) {last : ℕ} → (t .groups ≤ g + 1) × (g < t .groups) × (last ≡ t .lengths .last)
     → last ≡ groupLength t (codesOf start t payload) g
 unfolding groupLength
-length-last t start payload g en m l e = simp (eq-eqb (suc g) (t .groups) (omega arith)) (e .0)
+length-last t start payload g h = simp (eq-eqb (suc g) (t .groups) (omega arith)) (h .2)

@@ -1,12 +1,11 @@
 -- A part lies within its payload. Assumes nothing.
 use mathlib.Core.Path.{_≡_, refl, _∙_}
 use mathlib.Core.List.{List, [], _∷_, _++_}
-use Prim.Native.Nat.{ℕ, zero, suc, _-_, _≤_}
-use native.Mathlib.Nat.{sub-zero, zero-sub}
+use Prim.Native.Nat.{ℕ, _-_, _≤_}
 use native.Mathlib.Omega.{arith}
 use lib.Dec.{ltb}
 use lib.ListN.{length, take, drop}
-use lib.Seq.{slice, take-nil}
+use lib.Seq.{slice}
 use Rattle.format.specs.Refusals.{Row, _gives_}
 use Rattle.format.specs.Template.{widthsAt, lengthsAt, valuesAt, descriptorsEnd, orderRefusals, kindRefusals, descriptorRefusals}
 use Rattle.format.specs.Unpacking.{codesOf, pointsBefore, placesOf, locatedBy, locatedRefusals, locate52, partOf}
@@ -20,7 +19,8 @@ use Rattle.format.specs.declared.Refusal.{Refusal}
 use Rattle.format.specs.declared.Refusal.the-variants.{Short}
 use Rattle.format.specs.declared.Located.{Located}
 use Rattle.format.specs.declared.Located.the-variants as located
-use Rattle.laws.specs.First.{Clear, passed, tests}
+use Rattle.laws.specs.First.{passed, clear-later, tests}
+use Rattle.laws.specs.Lists.{take-of-drop}
 use Rattle.group_fields.specs.Parts.{boundsOf}
 use Rattle.group_fields.specs.declared.Bounds.{Bounds}
 
@@ -45,10 +45,6 @@ pub record Held (payload : List ℕ) (b : Bounds) : Type 0 where
   pub low : b .from .0 ≤ b .to .0
   pub high : b .to .0 ≤ length payload
 
-clear-later : (rows more : List Row) → Clear (rows ++ more) → Clear more
-clear-later [] more h = h
-clear-later (t gives r ∷ rows) more h = clear-later rows more (h .1)
-
 module _ (rows : List Row) (start : ℕ) (t : Template) (payload : List ℕ) where
   ordered : {p : Places} {n : ℕ} → located.At p n ≡ locatedBy (rows ++ locatedRefusals start t payload) start t payload → Ordered payload p
   unfolding placesOf widthsAt lengthsAt valuesAt
@@ -67,12 +63,6 @@ module _ (rows : List Row) (start : ℕ) (t : Template) (payload : List ℕ) whe
   part-held part (located.Refused r) e = record { low = omega arith; high = omega arith }
 
 -- ---- what it holds
-
-take-of-drop : (a e : ℕ) (l : List ℕ) → take (e - a) (drop a l) ≡ slice a e l
-take-of-drop zero e l = rw (sub-zero e)
-take-of-drop (suc a) zero l = rw (zero-sub (suc a))
-take-of-drop (suc a) (suc e) [] = take-nil (suc e - suc a)
-take-of-drop (suc a) (suc e) (x ∷ l) = let d : suc e - suc a ≡ e - a = omega arith in rw d (take-of-drop a e l)
 
 pub part-is : (part : Part) (payload : List ℕ) (x : Located) → slice (boundsOf part x .from .0) (boundsOf part x .to .0) payload ≡ partOf part payload x
 part-is References payload (located.At p n) = refl

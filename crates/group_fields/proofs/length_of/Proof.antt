@@ -15,7 +15,7 @@ size-requires-2 : tie.Need-size-requires-2
 size-requires-2 c κs = search needs
 
 returns : tie.Need-returns
-returns c = (search length-last, omega arith)
+returns c = (length-last _ _ _ _ (omega arith), omega arith)
 
 code-requires : tie.Need-code-requires
 code-requires c κs = search needs
