@@ -1,8 +1,8 @@
 -- The walk over all groups. Assumes nothing.
-use mathlib.Core.Path.{_≡_, refl, ap₂, _∙_}
+use mathlib.Core.Path.{_≡_, refl, ap, ap₂, _∙_}
 use mathlib.Core.Bool.{Bool, true, false, and-false, or-true}
 use mathlib.Core.List.{List}
-use Prim.Native.Nat.{ℕ, suc, _+_, _*_, _/_, _^_, _≤_, _<_}
+use Prim.Native.Nat.{ℕ, suc, _+_, _*_, _^_, _≤_, _<_}
 use native.Mathlib.Omega.{arith}
 use lib.ListN.{length, getD, drop}
 use borrow.Author.Tests.{lt-ltb, le-ltb}
@@ -10,11 +10,12 @@ use Rattle.format.specs.Lists.{listed, total, anyOf}
 use Rattle.format.specs.Refusals.{Row, first}
 use Rattle.format.specs.Unpacking.{Codes, codesOf, groupWidth, groupLength, pointsBefore, bitsBefore, wrongGroup, placesOf, groupRefusals, locatedBy}
 use Rattle.format.specs.declared.Template.{Template}
+use Rattle.format.specs.declared.Places.{Places}
 use Rattle.format.specs.declared.Located.the-variants as located
 use Rattle.format.specs.declared.Refusal.the-variants.{GroupSize, Short}
 use Rattle.laws.specs.First.{decides, clears, tests}
 use Rattle.laws.specs.Lists.{length-listed, getD-listed, any-here, any-later, any-end, total-next}
-use Rattle.group_fields.specs.Walk.{Walkable}
+use Rattle.group_fields.specs.Walk.{Walkable, endedBy}
 use Rattle.group_fields.specs.declared.Fields.{Fields}
 use Rattle.group_fields.proofs.Groups.{length-last}
 
@@ -98,17 +99,16 @@ module _ {t : Template} {f : Fields} (h : Walkable t f) {payload : List ℕ} {n 
     none : wrongFrom t codes 0 ≡ false
     none = w .right ∙ any-end (wrongGroup t codes) (listed (t .groups) (λ k. k)) g (omega (arith, length-listed (t .groups) (λ (k : ℕ). k)))
 
-    end-is : f .values .0 + (bits + 7) / 8 ≡ placesOf (f .references .0) t codes .end .0
-    unfolding placesOf
-    end-is = rw (h .placed .values, w .size, done)
+    module _ {p : Places} (ep : p ≡ endedBy f bits) where
+      places-are : p ≡ placesOf (f .references .0) t codes
+      unfolding placesOf
+      places-are = ep ∙ rw (h .placed .widths, h .placed .lengths, h .placed .values, w .size, done)
 
-    pub walking-short : length payload < f .values .0 + (bits + 7) / 8 → located.Refused Short ≡ locatedBy refused (f .references .0) t payload
-    walking-short l = decides located.Refused Short refused _ (omega (arith, tests, none, end-is))
+      end-is : p .end .0 ≡ placesOf (f .references .0) t codes .end .0
+      end-is = ap (λ (q : Places). q .end .0) places-are
 
-    pub walking-at : f .values .0 + (bits + 7) / 8 ≤ length payload
-        → located.At (record { references = f .references; widths = f .widths; lengths = f .lengths; values = f .values; end = record { 0 = f .values .0 + (bits + 7) / 8 } }) points
-        ≡ locatedBy refused (f .references .0) t payload
-    unfolding placesOf
-    walking-at l =
-        ap₂ located.At (rw (h .placed .widths, h .placed .lengths, h .placed .values, w .size, done)) (rw (w .count, done))
-        ∙ clears located.Refused refused _ (omega (arith, tests, none, end-is))
+      pub walking-short : length payload < p .end .0 → located.Refused Short ≡ locatedBy refused (f .references .0) t payload
+      walking-short l = decides located.Refused Short refused _ (omega (arith, tests, none, end-is))
+
+      pub walking-at : p .end .0 ≤ length payload → located.At p points ≡ locatedBy refused (f .references .0) t payload
+      walking-at l = ap₂ located.At places-are (rw (w .count, done)) ∙ clears located.Refused refused _ (omega (arith, tests, none, end-is))

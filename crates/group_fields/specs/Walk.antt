@@ -1,15 +1,17 @@
 -- What the inner functions are asked, and which rows are left to them. Assumes nothing.
-use Prim.Native.Nat.{ℕ, _≤_, _<_, _^_}
+use Prim.Native.Nat.{ℕ, _+_, _≤_, _<_, _^_}
 use mathlib.Core.Path.{_≡_}
 use mathlib.Core.List.{List, [], _∷_, _++_}
 use lib.Dec.{ltb}
 use lib.ListN.{length}
+use Rattle.format.specs.Bits.{roundedUp}
 use Rattle.format.specs.Refusals.{Row, _gives_}
 use Rattle.format.specs.Template.{widthsAt, lengthsAt, valuesAt, descriptorsEnd, descriptorRefusals}
 use Rattle.format.specs.Unpacking.{locatedRefusals}
 use Rattle.format.specs.declared.Refusal.the-variants.{Short}
 use Rattle.format.specs.declared.Template.{Template}
 use Rattle.format.specs.declared.Differencing.{Differencing}
+use Rattle.format.specs.declared.Places.{Places}
 use Rattle.group_fields.specs.declared.Fields.{Fields}
 
 -- the fields of a template whose references begin at octet `start`
@@ -35,6 +37,16 @@ pub record Passing (t : Template) : Type 0 where
 pub record Walkable (t : Template) (f : Fields) : Type 0 where
   pub passing : Passing t
   pub placed : Placed (f .references .0) t f
+
+-- the parts of a payload whose values take so many bits: "the values part ends with the last value's octet"
+abbrev pub endedBy : Fields → ℕ → Places
+endedBy f bits = record {
+  references = f .references;
+  widths = f .widths;
+  lengths = f .lengths;
+  values = f .values;
+  end = record { 0 = f .values .0 + roundedUp bits };
+}
 
 -- "4, 7 for descriptors, then from 6 on as for 5.2"
 abbrev pub describedRefusals : Template → Differencing → List ℕ → List Row

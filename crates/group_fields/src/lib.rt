@@ -8,7 +8,7 @@ ghost use Rattle.format.specs.Template.{descriptorsEnd};
 ghost use Rattle.format.specs.Unpacking.{codesOf, referenceOf, groupWidth, groupLength, locatedBy, fieldsShort, groupRefusals, locatedRefusals, locate52, partOf};
 ghost use Rattle.format.specs.Differences.{locate53};
 ghost use Rattle.group_fields.specs.Parts.{boundsOf};
-ghost use Rattle.group_fields.specs.Walk.{Placed, Passing, Walkable, describedRefusals};
+ghost use Rattle.group_fields.specs.Walk.{Placed, Passing, Walkable, endedBy, describedRefusals};
 use format::BitPlace;
 use format::Differencing;
 use format::Located;
@@ -122,6 +122,25 @@ pub fn length_of(template: Template, payload: &[u8], fields: Fields, g: usize) -
     coded_length(code, template.lengths.increment, template.lengths.reference)
 }
 
+// "the values part ends with the last value's octet"
+fn ended(fields: Fields, bits: usize) -> Places
+    requires { ⌜ (fields .values .0 < 2 ^ 42) × (bits < 2 ^ 63) ⌝ }
+    ensures { λ r. ⌜ r ≡ endedBy fields bits ⌝ }
+{
+    let references = fields.references;
+    let widths = fields.widths;
+    let lengths = fields.lengths;
+    let values = fields.values;
+    let end = OctetPlace(values.0 + (bits + 7) / 8);
+    Places {
+        references,
+        widths,
+        lengths,
+        values,
+        end,
+    }
+}
+
 // "8, 7 for the values": no group may be too wide or too long, and the payload ends with or after the last value's octet.
 fn walked(template: Template, payload: &[u8], fields: Fields) -> Located
     requires { ⌜ Walkable template fields ⌝ }
@@ -144,24 +163,11 @@ fn walked(template: Template, payload: &[u8], fields: Fields) -> Located
         bits += times(length, width);
         g += 1;
     }
-    let references = fields.references;
-    let widths = fields.widths;
-    let lengths = fields.lengths;
-    let values = fields.values;
-    let end = OctetPlace(values.0 + (bits + 7) / 8);
-    if payload.len() < end.0 {
+    let places = ended(fields, bits);
+    if payload.len() < places.end.0 {
         return Located::Refused(Refusal::Short);
     }
-    Located::At(
-        Places {
-            references,
-            widths,
-            lengths,
-            values,
-            end,
-        },
-        points,
-    )
+    Located::At(places, points)
 }
 
 // "7 for the group fields", then the groups.
@@ -302,6 +308,7 @@ pub fn part_complex(template: Template, payload: &[u8], part: Part) -> &[u8]
     &payload[from..to]
 }
 
+// The same under 5.3.
 pub fn part_spatial(
     template: Template,
     differencing: Differencing,

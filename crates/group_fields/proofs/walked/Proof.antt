@@ -47,11 +47,8 @@ loop-less c = omega arith
 loop-again : tie.Need-loop-again Inv-loop μ-loop
 loop-again c = search walking-more
 
-add-t19 : tie.Need-add-t19 Inv-loop μ-loop
-add-t19 c = omega arith
-
-add-t21 : tie.Need-add-t21 Inv-loop μ-loop
-add-t21 c = omega arith
+ended-requires : tie.Need-ended-requires Inv-loop μ-loop
+ended-requires c κs = omega arith
 
 returns-3 : tie.Need-returns-3 Inv-loop μ-loop
 returns-3 c = search walking-short
@@ -77,7 +74,6 @@ walked-spec =
     add-g
     loop-less
     loop-again
-    add-t19
-    add-t21
+    ended-requires
     returns-3
     returns-4)
