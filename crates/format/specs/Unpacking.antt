@@ -39,6 +39,10 @@ codesOf start t payload = record {
   lengths = fieldOf payload (lengthsAt start t * 8) (t .lengths .bits) (t .groups - 1);
 }
 
+-- the reference of group g
+unfoldable pub referenceOf : Codes → ℕ → ℕ
+referenceOf codes g = getD (codes .references) g 0
+
 module _ (t : Template) (codes : Codes) where
   -- "Width = width code + width reference."
   unfoldable pub groupWidth : ℕ → ℕ
@@ -100,7 +104,7 @@ module _ (t : Template) where
     -- point k of group g
     unfoldable pub pointAt : ℕ → ℕ → DecodedValue
     pointAt g k =
-        pointOf (groupWidth t (said .codes) g) (getD (said .codes .references) g 0) (getD (getD (said .values) g []) k 0)
+        pointOf (groupWidth t (said .codes) g) (referenceOf (said .codes) g) (getD (getD (said .values) g []) k 0)
 
     -- the points of the first n groups
     unfoldable pub pointsUpTo : ℕ → List DecodedValue
@@ -125,15 +129,23 @@ partOf Lengths payload (located.At p n) = slice (p .lengths .0) (p .values .0) p
 partOf Values payload (located.At p n) = slice (p .values .0) (p .end .0) payload
 partOf part payload (located.Refused r) = []
 
--- 6, 5, "7 for the group fields, 8, 7 for the values"
-abbrev pub locatedRefusals : ℕ → Template → List ℕ → List Row
-locatedRefusals start t payload =
+-- "7 for the group fields"
+abbrev pub fieldsShort : ℕ → Template → List ℕ → List Row
+fieldsShort start t payload =
+    ltb (length payload) (valuesAt start t) gives Short
+    ∷ []
+
+-- "8, 7 for the values"
+abbrev pub groupRefusals : ℕ → Template → List ℕ → List Row
+groupRefusals start t payload =
     let codes = codesOf start t payload in
-    fieldRefusals t ++
-    (ltb (length payload) (valuesAt start t) gives Short
-    ∷ anyOf (wrongGroup t codes) (listed (t .groups) (λ g. g)) gives GroupSize
+    anyOf (wrongGroup t codes) (listed (t .groups) (λ g. g)) gives GroupSize
     ∷ ltb (length payload) (placesOf start t codes .end .0) gives Short
-    ∷ [])
+    ∷ []
+
+-- from 6 on, as far as 7 for the values
+abbrev pub locatedRefusals : ℕ → Template → List ℕ → List Row
+locatedRefusals start t payload = fieldRefusals t ++ fieldsShort start t payload ++ groupRefusals start t payload
 
 -- where the parts are, unless one of the rows refuses
 abbrev pub locatedBy : List Row → ℕ → Template → List ℕ → Located

@@ -91,6 +91,10 @@ abbrev pub Clear : List Row → Type 0
 Clear [] = Unit
 Clear (t gives r ∷ rows) = (t ≡ false) × Clear rows
 
+pub clear-later : (rows more : List Row) → Clear (rows ++ more) → Clear more
+clear-later [] more h = h
+clear-later (t gives r ∷ rows) more h = clear-later rows more (h .1)
+
 module _ {A : Type 0} (refused : Refusal → A) where
   -- a return that refuses
   pub decides : (q : Refusal) (rows : List Row) (a : A) → Gives (refusalNumber q) rows → refused q ≡ first refused rows a

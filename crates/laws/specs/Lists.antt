@@ -2,12 +2,12 @@
 use mathlib.Core.Path.{_≡_, refl, sym, ap, ap₂, _∙_}
 use mathlib.Core.Bool.{Bool, true, false, _||_, or-true, false≢true}
 use mathlib.Core.List.{List, [], _∷_, _++_, append-nil, append-assoc}
-use Prim.Native.Nat.{ℕ, zero, suc, _+_, _≤_, _<_}
-use native.Mathlib.Nat.{not-suc-le-zero, add-zero, zero-add, suc-add}
+use Prim.Native.Nat.{ℕ, zero, suc, _+_, _-_, _≤_, _<_}
+use native.Mathlib.Nat.{not-suc-le-zero, add-zero, zero-add, suc-add, sub-zero, zero-sub}
 use native.Mathlib.Numerals.{add-one}
 use native.Mathlib.Omega.{arith}
-use lib.ListN.{length, drop, set, getD, length-append, length-drop, drop-of-length-le}
-use lib.Seq.{drop-cons, drop-at, set-at, append-snoc}
+use lib.ListN.{length, take, drop, set, getD, length-append, length-drop, drop-of-length-le}
+use lib.Seq.{slice, take-nil, drop-cons, drop-at, set-at, append-snoc}
 use Rattle.format.specs.Lists.{listed, total, joined, anyOf, _over_}
 
 -- ---- listed
@@ -63,6 +63,15 @@ module _ {A : Type 0} where
   pub none-over : (xs lent : List A) → length xs ≡ 0 → lent ≡ xs over lent
   none-over [] lent h = refl
   none-over (x ∷ xs) lent h = absurd (omega arith)
+
+-- ---- a part in the middle
+
+-- a part of a lent slice, as the code takes it
+pub take-of-drop : {A : Type 0} (a e : ℕ) (l : List A) → take (e - a) (drop a l) ≡ slice a e l
+take-of-drop zero e l = rw (sub-zero e)
+take-of-drop (suc a) zero l = rw (zero-sub (suc a))
+take-of-drop (suc a) (suc e) [] = take-nil (suc e - suc a)
+take-of-drop (suc a) (suc e) (x ∷ l) = let d : suc e - suc a ≡ e - a = omega arith in rw d (take-of-drop a e l)
 
 -- ---- whether f holds of one
 

@@ -1,6 +1,6 @@
 -- The octets that a field spans. Assumes nothing.
 use mathlib.Core.Path.{_≡_, refl, sym, ap, _∙_}
-use Prim.Native.Nat.{ℕ, _+_, _*_, _/_, _%_, _≤_, _<_}
+use Prim.Native.Nat.{ℕ, zero, suc, _+_, _*_, _/_, _%_, _≤_, _<_}
 use native.Mathlib.Nat.{add-mul, div-add-mod', mul-right-comm}
 use native.Mathlib.Omega.{arith}
 use lib.Dec.{eqb}
@@ -15,6 +15,14 @@ span-none s w n h = rw (eq-eqb (n * w) 0 h)
 pub span-some : (s w n : ℕ) → 0 < n * w → spanOf s w n ≡ roundedUp (s + n * w)
 unfolding spanOf
 span-some s w n h = simp (ne-eqb (n * w) 0 (λ e. omega arith))
+
+-- from the start of an octet the case of no bits is none of its own
+pub span-aligned : (w n : ℕ) → spanOf 0 w n ≡ (n * w + 7) / 8
+span-aligned w n = by-size (n * w) refl
+  where
+    by-size : (m : ℕ) → n * w ≡ m → spanOf 0 w n ≡ (n * w + 7) / 8
+    by-size zero e = span-none 0 w n e ∙ sym (ap (λ (k : ℕ). (k + 7) / 8) e)
+    by-size (suc m) e = span-some 0 w n (omega arith) ∙ omega arith
 
 -- eight numbers of width w make w octets, so that a span is counted without its bits
 pub eights : (n w : ℕ) → n * w ≡ n / 8 * w * 8 + n % 8 * w

@@ -1,0 +1,4 @@
+pub mod Groups
+pub mod Walking
+pub mod Order
+pub mod Parts
