@@ -11,7 +11,7 @@ use Rattle.format.specs.Layout.{pointSize, pointOctets, levelSize, level
 use Rattle.format.specs.Template.{widthsAt, lengthsAt, valuesAt}
 use Rattle.format.specs.Unpacking.{codesOf, referenceOf, saidBy, groupWidth, groupLength, pointsBefore, bitsBefore, wrongGroup, decoded, pointOf, pointAt, pointsUpTo, placesOf, unpack52}
 use Rattle.format.specs.Differences.{descriptorsOf, raised, expected, restored, beyond, points53, unpack53}
-use Rattle.format.specs.RunLength.{codesRead, levelsOf, repeatsFirst, levelsIn, runLength}
+use Rattle.format.specs.RunLength.{codesLeft, levelsOf, repeatsFirst, levelsIn, runLength}
 use Rattle.format.specs.Grouping.{digitsIn, bits, widthOf, endsBefore, groupsFrom, groupsOf, recordsFrom}
 use Rattle.format.specs.Packing.{summarySize, widthCoding, gcdIn, gcd, gcdFrom, divisorUpTo, incrementOf, butLast, lengthCoding, templateOf, lengthCodes, valueString, payloadOf, packingOf, pack}
 use Rattle.format.specs.declared.Template.{Template}
@@ -150,5 +150,5 @@ abbrev shown : Case → Seen
 shown (x shows y) = y
 
 pub all-hold : map found cases ≡ map shown cases
-unfolding listed referenceOf total joined anyOf greatest least flatMap first bitIn numberOf spanOf readField writeField widthsAt lengthsAt valuesAt codesOf saidBy groupWidth groupLength pointsBefore bitsBefore wrongGroup decoded pointOf pointAt pointsUpTo placesOf unpack52 descriptorsOf raised expected restored beyond points53 unpack53 codesRead levelsOf repeatsFirst levelsIn runLength digitsIn bits widthOf endsBefore groupsFrom groupsOf recordsFrom widthCoding gcdIn gcd gcdFrom divisorUpTo incrementOf butLast lengthCoding templateOf lengthCodes valueString payloadOf packingOf pack
+unfolding listed referenceOf total joined anyOf greatest least flatMap first bitIn numberOf spanOf readField writeField widthsAt lengthsAt valuesAt codesOf saidBy groupWidth groupLength pointsBefore bitsBefore wrongGroup decoded pointOf pointAt pointsUpTo placesOf unpack52 descriptorsOf raised expected restored beyond points53 unpack53 codesLeft levelsOf repeatsFirst levelsIn runLength digitsIn bits widthOf endsBefore groupsFrom groupsOf recordsFrom widthCoding gcdIn gcd gcdFrom divisorUpTo incrementOf butLast lengthCoding templateOf lengthCodes valueString payloadOf packingOf pack
 all-hold = refl

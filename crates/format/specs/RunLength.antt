@@ -12,12 +12,15 @@ use Rattle.format.specs.declared.Refusal.the-variants.{Width, Repeat, Po
 use Rattle.format.specs.declared.Unrolled.{Unrolled}
 use Rattle.format.specs.declared.Unrolled.the-variants as unrolled
 
--- "All whole codes in the payload are read; fewer than b bits at the end are ignored.": how many codes are read
-unfoldable pub codesRead : ℕ → List ℕ → ℕ
-codesRead b payload = length payload * 8 / b
+-- "All whole codes in the payload are read; fewer than b bits at the end are ignored.": how many are read from bit p on
+unfoldable pub codesLeft : ℕ → List ℕ → ℕ → ℕ
+codesLeft b payload p = (length payload * 8 - p) / b
+
+abbrev pub codesFrom : ℕ → List ℕ → ℕ → List ℕ
+codesFrom b payload p = fieldOf payload p b (codesLeft b payload p)
 
 abbrev pub codesIn : ℕ → List ℕ → List ℕ
-codesIn b payload = fieldOf payload 0 b (codesRead b payload)
+codesIn b payload = codesFrom b payload 0
 
 -- "With b bits and greatest level M, codes 0 to M are levels; the base is 2^b − 1 − M."
 abbrev pub baseOf : ℕ → ℕ → ℕ

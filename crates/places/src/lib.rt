@@ -20,6 +20,13 @@ pub fn octet_of(place: BitPlace) -> OctetPlace
     OctetPlace(place.0 / 8)
 }
 
+// Which bit of its octet a place in bits is.
+pub fn bit_in_octet(place: BitPlace) -> usize
+    ensures { λ r. ⌜ (r ≡ place .0 % 8) × (r ≤ 7) ⌝ }
+{
+    place.0 % 8
+}
+
 // The first bit of an octet.
 pub fn first_bit(place: OctetPlace) -> BitPlace
     requires { ⌜ place .0 < 2 ^ 61 ⌝ }

@@ -3,29 +3,25 @@ use mathlib.Core.Path.{_≡_, refl, sym, ap, ap₂, _∙_}
 use mathlib.Core.Bool.{Bool, true, false}
 use mathlib.Core.List.{List, [], _∷_}
 use Prim.Native.Nat.{ℕ, zero, suc, _+_, _-_, _*_, _/_, _≤_, _<_}
-use native.Mathlib.Nat.{div-eq-of-lt, div-eq-sub-div, sub-zero, zero-mul, suc-mul, add-zero, add-assoc, zero-div}
+use native.Mathlib.Nat.{div-eq-of-lt, div-eq-sub-div, zero-mul, suc-mul, add-zero, add-assoc, zero-div}
 use native.Mathlib.Numerals.{add-one}
 use native.Mathlib.Omega.{arith}
 use lib.Dec.{ltb}
+use borrow.Author.Tests.{lt-ltb, le-ltb, ltb-true, ltb-false}
 use lib.ListN.{length}
 use Rattle.format.specs.Lists.{listed}
-use Rattle.format.specs.Bits.{numberAt, fieldOf}
-use Rattle.format.specs.RunLength.{codesRead, codesIn, repeatsFirst}
+use Rattle.format.specs.Bits.{roundedUp, numberAt, fieldOf}
+use Rattle.format.specs.RunLength.{codesLeft, codesFrom, codesIn, repeatsFirst}
 use Rattle.laws.specs.Lists.{listed-ext}
-use Rattle.run_length.specs.Runs.{codesFrom}
-
-pub codes-all : (b : ℕ) (payload : List ℕ) → codesIn b payload ≡ codesFrom b payload 0
-unfolding codesRead codesFrom
-codes-all b payload = rw (sub-zero (length payload * 8))
 
 module _ (b : ℕ) (payload : List ℕ) (p : ℕ) (some : 0 < b) where
   -- "fewer than b bits at the end are ignored"
   pub codes-none : length payload * 8 < p + b → codesFrom b payload p ≡ []
-  unfolding codesFrom listed
+  unfolding codesLeft listed
   codes-none h = rw (div-eq-of-lt {n = length payload * 8 - p} {m = b} (omega arith))
 
   pub codes-next : p + b ≤ length payload * 8 → codesFrom b payload p ≡ numberAt payload p b ∷ codesFrom b payload (p + b)
-  unfolding codesFrom listed
+  unfolding codesLeft listed
   codes-next h =
       let left : ℕ = length payload * 8 - p in
       let n : ℕ = (length payload * 8 - (p + b)) / b in
@@ -37,12 +33,20 @@ module _ (b : ℕ) (payload : List ℕ) (p : ℕ) (some : 0 < b) where
       (listed-ext n (λ i. numberAt payload (p + suc i * b) b) (λ i. numberAt payload (p + b + i * b) b)
       (λ i l. ap (λ (q : ℕ). numberAt payload q b) (omega (arith, suc-mul i b)))))
 
+-- whole octets end where their bits end
+pub ends-is : (octets octet bit bits : ℕ) {up : ℕ} → up ≡ roundedUp (bit + bits) → ltb octets (octet + up) ≡ ltb (octets * 8) (octet * 8 + bit + bits)
+ends-is octets octet bit bits {up} e = by-test (ltb octets (octet + up)) refl
+  where
+    by-test : (t : Bool) → ltb octets (octet + up) ≡ t → ltb octets (octet + up) ≡ ltb (octets * 8) (octet * 8 + bit + bits)
+    by-test true h = h ∙ sym (lt-ltb (octets * 8) (octet * 8 + bit + bits) (omega (arith, ltb-true octets (octet + up) h)))
+    by-test false h = h ∙ sym (le-ltb (octets * 8) (octet * 8 + bit + bits) (omega (arith, ltb-false octets (octet + up) h)))
+
 -- "the first run-length code is a repeat"
 module _ (b M : ℕ) (payload : List ℕ) (some : 0 < b) where
-  pub first-none : length payload * 8 < b → false ≡ repeatsFirst M (codesIn b payload)
+  pub first-none : {t : Bool} → t ≡ ltb (length payload * 8) (0 * 8 + 0 + b) → t ≡ true → false ≡ repeatsFirst M (codesIn b payload)
   unfolding repeatsFirst
-  first-none h = rw (codes-all b payload, codes-none b payload 0 some (omega arith))
+  first-none e h = rw (codes-none b payload 0 some (omega (arith, ltb-true (length payload * 8) (0 * 8 + 0 + b) (sym e ∙ h))))
 
-  pub first-is : b ≤ length payload * 8 → ltb M (numberAt payload 0 b) ≡ repeatsFirst M (codesIn b payload)
+  pub first-is : {t : Bool} → t ≡ ltb (length payload * 8) (0 * 8 + 0 + b) → t ≡ false → ltb M (numberAt payload 0 b) ≡ repeatsFirst M (codesIn b payload)
   unfolding repeatsFirst
-  first-is h = rw (codes-all b payload, codes-next b payload 0 some (omega arith))
+  first-is e h = rw (codes-next b payload 0 some (omega (arith, ltb-false (length payload * 8) (0 * 8 + 0 + b) (sym e ∙ h))))

@@ -8,24 +8,23 @@ use lib.ListN.{length, replicate, take, length-append, length-replicate, replica
 use lib.Seq.{sets, length-sets, take-nil, take-all}
 use Rattle.format.specs.Lists.{listed, _over_}
 use Rattle.format.specs.Layout.{levelOctets}
-use Rattle.format.specs.RunLength.{baseOf, levelsOf, levelsIn}
+use Rattle.format.specs.RunLength.{codesFrom, baseOf, levelsOf, levelsIn}
 use Rattle.laws.specs.Lists.{length-listed}
 use Rattle.laws.specs.Stores.{sets-append, flat-append, length-flat, flat-over}
-use Rattle.run_length.specs.Runs.{cap, placeOf, codesFrom, Coding, Within, Exactly, More, Told, Walked, first}
+use Rattle.run_length.specs.Runs.{cap, placeOf, Coding, Within, Exactly, More, Told, Walked, firstRun}
 use Rattle.run_length.specs.declared.Run.{Run}
 use Rattle.run_length.proofs.Caps.{sum-capped, rest-capped}
-use Rattle.run_length.proofs.Codes.{codes-all}
 
 -- the levels that the codes from a run on mean, its weight being `weight` without a cap
 abbrev levelsFrom : ℕ → ℕ → List ℕ → Run → ℕ → List ℕ
 levelsFrom b M payload r weight = levelsOf M (baseOf b M) (r .level) weight (codesFrom b payload (placeOf r))
 
-all-levels : (b M : ℕ) (payload : List ℕ) → levelsIn b M payload ≡ levelsFrom b M payload first 1
+all-levels : (b M : ℕ) (payload : List ℕ) → levelsIn b M payload ≡ levelsFrom b M payload firstRun 1
 unfolding levelsIn
-all-levels b M payload = rw (codes-all b payload)
+all-levels b M payload = refl
 
-first-within : (b M : ℕ) (payload : List ℕ) → Within b M payload first
-first-within b M payload = record { bit-low = omega arith; inside = omega arith; level-low = omega arith; weight-low = omega arith }
+first-within : (payload : List ℕ) → Within payload firstRun
+first-within payload = record { bit-low = omega arith; inside = omega arith; level-low = omega arith; weight-low = omega arith }
 
 -- ---- repeating a level
 
@@ -74,7 +73,7 @@ repeating-none levels from end room level l = let e : min end room - from ≡ 0 
 
 -- the codes before the run are taken: `done` are the levels that they mean
 pub record Walking (b M : ℕ) (payload : List ℕ) (room : ℕ) (lent : List ℕ) (r : Run) (points : ℕ) (levels : List ℕ) : Type 0 where
-  pub within : Within b M payload r
+  pub within : Within payload r
   pub weight : ℕ
   pub weight-is : r .weight ≡ min weight cap
   pub done : List ℕ
@@ -83,10 +82,10 @@ pub record Walking (b M : ℕ) (payload : List ℕ) (room : ℕ) (lent : List �
   pub long : length levels ≡ length lent
   pub there : levels ≡ flatMap levelOctets (take room done) over lent
 
-pub walking-start : (b M : ℕ) (payload : List ℕ) (room : ℕ) (lent : List ℕ) {r : Run} → r ≡ first → Walking b M payload room lent r 0 lent
+pub walking-start : (b M : ℕ) (payload : List ℕ) (room : ℕ) (lent : List ℕ) {r : Run} → r ≡ firstRun → Walking b M payload room lent r 0 lent
 unfolding flatMap
 walking-start b M payload room lent e = rw e record {
-  within = first-within b M payload;
+  within = first-within payload;
   weight = 1;
   weight-is = refl;
   done = [];

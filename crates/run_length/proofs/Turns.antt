@@ -7,23 +7,23 @@ use native.Mathlib.Nat.{lt-of-lt-of-le, mul-comm, zero-mul, zero-add}
 use native.Mathlib.Omega.{arith}
 use lib.Pow.{pow-mono}
 use lib.ListN.{length, replicate}
-use lib.Dec.{leb}
-use borrow.Author.Tests.{lt-ltb, le-ltb, leb-true, leb-false}
+use lib.Dec.{ltb, leb}
+use borrow.Author.Tests.{lt-ltb, le-ltb, ltb-true, ltb-false, leb-true, leb-false}
 use Rattle.format.specs.Bits.{numberAt}
-use Rattle.format.specs.RunLength.{baseOf, levelsOf}
-use Rattle.run_length.specs.Runs.{cap, placeOf, codesFrom, Coding, Within, Exactly, More, Told}
+use Rattle.format.specs.RunLength.{codesFrom, baseOf, levelsOf}
+use Rattle.run_length.specs.Runs.{cap, placeOf, Coding, Within, Exactly, More, Told}
 use Rattle.run_length.specs.declared.Run.{Run}
 use Rattle.run_length.specs.declared.Turn.{Turn}
 use Rattle.run_length.specs.declared.Turn.the-variants as turn
 use Rattle.run_length.proofs.Caps.{min-times}
 use Rattle.run_length.proofs.Codes.{codes-none, codes-next}
 
-module _ {b M : ℕ} {payload : List ℕ} {r : Run} (c : Coding b M) (w : Within b M payload r) where
+module _ {b M : ℕ} {payload : List ℕ} {r : Run} (c : Coding b M) (w : Within payload r) where
   -- where no whole code is left
-  pub taken-end : length payload < r .octet .0 + (r .bit + b + 7) / 8 → codesFrom b payload (placeOf r) ≡ []
-  taken-end h = codes-none b payload (placeOf r) (c .some) (omega (arith, w .inside))
+  pub taken-end : {t : Bool} → t ≡ ltb (length payload * 8) (r .octet .0 * 8 + r .bit + b) → t ≡ true → codesFrom b payload (placeOf r) ≡ []
+  taken-end e h = codes-none b payload (placeOf r) (c .some) (ltb-true (length payload * 8) (placeOf r + b) (sym e ∙ h))
 
-  module _ {code : ℕ} (ec : code ≡ numberAt payload (r .octet .0 * 8 + r .bit) b) (room : r .octet .0 + (r .bit + b + 7) / 8 ≤ length payload) where
+  module _ {code : ℕ} (ec : code ≡ numberAt payload (r .octet .0 * 8 + r .bit) b) {t : Bool} (et : t ≡ ltb (length payload * 8) (r .octet .0 * 8 + r .bit + b)) (left : t ≡ false) where
     -- behind the code
     abbrev next : ℕ → ℕ → Run
     next level weight = record { octet = record { 0 = r .octet .0 + (r .bit + b) / 8 }; bit = (r .bit + b) % 8; level = level; weight = weight }
@@ -32,9 +32,9 @@ module _ {b M : ℕ} {payload : List ℕ} {r : Run} (c : Coding b M) (w : Within
     place-next level weight = omega arith
 
     inside : placeOf r + b ≤ length payload * 8
-    inside = omega (arith, w .inside, w .bit-low, c .few)
+    inside = ltb-false (length payload * 8) (placeOf r + b) (sym et ∙ left)
 
-    next-within : (level weight : ℕ) → level < 2 ^ 15 → weight ≤ cap → Within b M payload (next level weight)
+    next-within : (level weight : ℕ) → level < 2 ^ 15 → weight ≤ cap → Within payload (next level weight)
     next-within level weight l m = record { bit-low = omega arith; inside = omega (arith, inside, place-next level weight); level-low = l; weight-low = m }
 
     codes-are : (level weight : ℕ) → codesFrom b payload (placeOf r) ≡ code ∷ codesFrom b payload (placeOf (next level weight))
@@ -76,11 +76,11 @@ module _ {b M : ℕ} {payload : List ℕ} {r : Run} (c : Coding b M) (w : Within
         }
 
     -- one of them, as the code says
-    pub taken-code : (top : ℕ) {d raised held more level weight one : ℕ} → (top + 1 ≡ 2 ^ b) × (top < 2 ^ 15)
+    pub taken-code : (top : ℕ) {d raised held more level weight one octets bit : ℕ} → octets ≡ (r .bit + b) / 8 → (bit ≡ (r .bit + b) % 8) × (bit ≤ 7) → (top + 1 ≡ 2 ^ b) × (top < 2 ^ 15)
         → (raised ≡ (top - M) * r .weight) × (raised < 2 ^ 56) → held ≡ min raised cap → d ≡ code - M - 1 → (more ≡ d * r .weight) × (more < 2 ^ 56)
         → level ≡ cond (leb code M) code (r .level) → weight ≡ cond (leb code M) 1 held → (one ≡ cond (leb code M) 1 0) × (one ≤ 1)
-        → More b M payload r (one + more) (next level weight)
-    taken-code top {d} {raised} {held} {more} {level} {weight} {one} et er eh ed em el ew eo = by-test (leb code M) refl
+        → More b M payload r (one + more) (record { octet = record { 0 = r .octet .0 + octets }; bit = bit; level = level; weight = weight })
+    taken-code top {d} {raised} {held} {more} {level} {weight} {one} eo′ eb et′ er eh ed em el ew eo = rw (eo′, eb .0) (by-test (leb code M) refl)
       where
         by-test : (t : Bool) → leb code M ≡ t → More b M payload r (one + more) (next level weight)
         by-test true h =
@@ -88,7 +88,7 @@ module _ {b M : ℕ} {payload : List ℕ} {r : Run} (c : Coding b M) (w : Within
             let none : more ≡ 0 = em .0 ∙ rw zero-digit (zero-mul (r .weight)) in
             rw (el, ew, eo .0, none, h) (taken-level (leb-true code M h))
         by-test false h =
-            rw (el, ew, eo .0, h, zero-add more) (taken-repeat top (leb-false code M h) et (rw ed at em) (rw (er .0) at eh))
+            rw (el, ew, eo .0, h, zero-add more) (taken-repeat top (leb-false code M h) et′ (rw ed at em) (rw (er .0) at eh))
 
 -- ---- what a caller knows of a turn
 

@@ -4,9 +4,8 @@ use mathlib.Core.List.{List, [], _++_, flatMap}
 use Prim.Native.Nat.{ℕ, _+_, _-_, _*_, _/_, _^_, _≤_, _<_, min}
 use lib.ListN.{length, replicate, take}
 use Rattle.format.specs.Lists.{_over_}
-use Rattle.format.specs.Bits.{fieldOf}
 use Rattle.format.specs.Layout.{levelOctets}
-use Rattle.format.specs.RunLength.{baseOf, levelsOf, levelsIn}
+use Rattle.format.specs.RunLength.{codesFrom, baseOf, levelsOf, levelsIn}
 use Rattle.run_length.specs.declared.Run.{Run}
 use Rattle.run_length.specs.declared.Turn.{Turn}
 use Rattle.run_length.specs.declared.Turn.the-variants as turn
@@ -19,10 +18,6 @@ cap = 4194305
 abbrev pub placeOf : Run → ℕ
 placeOf r = r .octet .0 * 8 + r .bit
 
--- the whole codes from bit p of the payload on
-unfoldable pub codesFrom : ℕ → List ℕ → ℕ → List ℕ
-codesFrom b payload p = fieldOf payload p b ((length payload * 8 - p) / b)
-
 -- bits and greatest level that are accepted
 pub record Coding (b M : ℕ) : Type 0 where
   pub some : 0 < b
@@ -30,7 +25,7 @@ pub record Coding (b M : ℕ) : Type 0 where
   pub low : M < 2 ^ b
 
 -- a run somewhere in a payload; its weight is stopped at the cap
-pub record Within (b M : ℕ) (payload : List ℕ) (r : Run) : Type 0 where
+pub record Within (payload : List ℕ) (r : Run) : Type 0 where
   pub bit-low : r .bit ≤ 7
   pub inside : placeOf r ≤ length payload * 8
   pub level-low : r .level < 2 ^ 15
@@ -47,7 +42,7 @@ pub record Exactly (b M : ℕ) (payload : List ℕ) (r : Run) (weight n : ℕ) (
       ≡ replicate count (next .level) ++ levelsOf M (baseOf b M) (next .level) after (codesFrom b payload (placeOf next))
 
 pub record More (b M : ℕ) (payload : List ℕ) (r : Run) (n : ℕ) (next : Run) : Type 0 where
-  pub within : Within b M payload next
+  pub within : Within payload next
   pub ahead : placeOf r < placeOf next
   pub few : n < 2 ^ 57
   pub exact : (weight : ℕ) → r .weight ≡ min weight cap → Exactly b M payload r weight n next
@@ -58,8 +53,8 @@ Told b M payload r (turn.Points n next) = More b M payload r n next
 Told b M payload r turn.End = codesFrom b payload (placeOf r) ≡ []
 
 -- before the first code
-abbrev pub first : Run
-first = record { octet = record { 0 = 0 }; bit = 0; level = 0; weight = 1 }
+abbrev pub firstRun : Run
+firstRun = record { octet = record { 0 = 0 }; bit = 0; level = 0; weight = 1 }
 
 -- all codes taken: how many levels there are, up to the cap, and the first `room` of them stored
 pub record Walked (b M : ℕ) (payload : List ℕ) (room : ℕ) (lent : List ℕ) (points : ℕ) (levels : List ℕ) : Type 0 where

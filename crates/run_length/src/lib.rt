@@ -3,12 +3,13 @@ ghost use mathlib.Core.Path.{_≡_};
 ghost use mathlib.Core.Bool.{cond};
 ghost use mathlib.Core.List.{flatMap};
 ghost use Prim.Native.Nat.{_+_, _-_, _*_, _<_, _≤_, _^_, min};
+ghost use lib.Dec.{ltb};
 ghost use lib.ListN.{length, replicate};
 ghost use lib.Seq.{sets};
 ghost use Rattle.format.specs.Refusals.{left};
 ghost use Rattle.format.specs.Layout.{levelSize, levelOctets};
 ghost use Rattle.format.specs.RunLength.{codesIn, repeatsFirst, runLength};
-ghost use Rattle.run_length.specs.Runs.{cap, Coding, Within, Told, Walked, first};
+ghost use Rattle.run_length.specs.Runs.{cap, Coding, Within, Told, Walked, firstRun};
 use format::BitPlace;
 use format::OctetPlace;
 use format::Refusal;
@@ -78,33 +79,41 @@ fn digit(code: usize, greatest: usize) -> usize
     0
 }
 
-// Takes the next code. This is where reading ends: fewer than `bits` bits at the end are ignored. Levels and repeat codes
-// alternate as the map has it, so a branch between them would be guessed wrong: both are reckoned, and one is chosen.
+// Where reading ends: "fewer than b bits at the end are ignored".
+fn ends(payload: &[u8], octet: OctetPlace, bit: usize, bits: usize) -> bool
+    requires { ⌜ (octet .0 ≤ length (now payload)) × (bit ≤ 7) × (bits ≤ 15) ⌝ }
+    ensures { λ r. ⌜ r ≡ ltb (length (now (payload .entry)) * 8) (octet .0 * 8 + bit + bits) ⌝ }
+{
+    payload.len() < octet.0 + places::octets_to(BitPlace(bit + bits)).0
+}
+
+// Takes the next code. Levels and repeat codes alternate as the map has it, so a branch between them would be guessed wrong:
+// both are reckoned, and one is chosen.
 fn taken(bits: usize, greatest: usize, payload: &[u8], run: Run) -> Turn
-    requires { ⌜ Coding bits greatest × Within bits greatest (now payload) run ⌝ }
+    requires { ⌜ Coding bits greatest × Within (now payload) run ⌝ }
     ensures { λ r. ⌜ Told bits greatest (now (payload .entry)) run r ⌝ }
 {
-    let at = run.octet.0;
-    let end = run.bit + bits;
-    if payload.len() < at + (end + 7) / 8 {
+    let octet = run.octet;
+    if ends(payload, octet, run.bit, bits) {
         return Turn::End;
     }
-    let code = stream::read_in_octet(payload, run.octet, run.bit, bits) as usize;
+    let end = BitPlace(run.bit + bits);
+    let code = stream::read_in_octet(payload, octet, run.bit, bits) as usize;
     let is_level = code <= greatest;
-    let base = power_below(bits) - greatest;
+    let base = greatest_code(bits) - greatest;
     let raised = capped(product(base, run.weight));
     let more = product(digit(code, greatest), run.weight);
     let next = Run {
-        octet: OctetPlace(at + end / 8),
-        bit: end % 8,
+        octet: OctetPlace(octet.0 + places::octet_of(end).0),
+        bit: places::bit_in_octet(end),
         level: chosen(is_level, code, run.level),
         weight: chosen(is_level, 1, raised),
     };
     Turn::Points(one_if(is_level) + more, next)
 }
 
-// 2^b − 1.
-fn power_below(bits: usize) -> usize
+// The greatest code of b bits, 2^b − 1.
+fn greatest_code(bits: usize) -> usize
     requires { ⌜ bits ≤ 15 ⌝ }
     ensures { λ r. ⌜ (r + 1 ≡ 2 ^ bits) × (r < 2 ^ 15) ⌝ }
 {
@@ -113,7 +122,7 @@ fn power_below(bits: usize) -> usize
 
 // The run before the first code. A repeat code there is refused, so its level is never seen.
 fn start() -> Run
-    ensures { λ r. ⌜ r ≡ first ⌝ }
+    ensures { λ r. ⌜ r ≡ firstRun ⌝ }
 {
     Run {
         octet: OctetPlace(0),
@@ -172,7 +181,7 @@ fn repeats_first(bits: usize, greatest: usize, payload: &[u8]) -> bool
     requires { ⌜ Coding bits greatest ⌝ }
     ensures { λ r. ⌜ r ≡ repeatsFirst greatest (codesIn bits (now (payload .entry))) ⌝ }
 {
-    if payload.len() < (bits + 7) / 8 {
+    if ends(payload, OctetPlace(0), 0, bits) {
         return false;
     }
     greatest < (stream::read_number(payload, BitPlace(0), bits) as usize)
@@ -197,7 +206,7 @@ pub fn run_length(
     if 15 < b {
         return Unrolled::Refused(Refusal::Width);
     }
-    if power_below(b) < top {
+    if greatest_code(b) < top {
         return Unrolled::Refused(Refusal::Width);
     }
     if repeats_first(b, top, payload) {

@@ -66,7 +66,12 @@ pub fn read_number(octets: &[u8], place: BitPlace, width: usize) -> u32
     requires { ⌜ width ≤ 32 ⌝ }
     ensures { λ r. ⌜ r ≡ numberAt (now (octets .entry)) (place .0) width ⌝ }
 {
-    read_in_octet(octets, places::octet_of(place), place.0 % 8, width)
+    read_in_octet(
+        octets,
+        places::octet_of(place),
+        places::bit_in_octet(place),
+        width,
+    )
 }
 
 // A place in octets that lie beside it, the width of the numbers from there on, and how many of them are left.
@@ -101,7 +106,7 @@ impl Cursor {
         })
     }
 
-    // Width 0 gives zeros until none are left, and looks at no octet.
+    // Width 0 gives zeros until none are left, whatever the octets are.
     pub fn next(self, octets: &[u8]) -> Step
         requires { ⌜ (self .place .0 < 2 ^ 63) × (self .width ≤ 32) ⌝ }
         ensures { λ r. ⌜ r ≡ stepped (now (octets .entry)) self ⌝ }

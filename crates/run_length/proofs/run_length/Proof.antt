@@ -21,8 +21,8 @@ returns-2 : tie.Need-returns-2
 unfolding runLength
 returns-2 c = decides _ Width _ _ (omega (arith, tests))
 
-power-below-requires : tie.Need-power-below-requires
-power-below-requires c κs = search needs
+greatest-code-requires : tie.Need-greatest-code-requires
+greatest-code-requires c κs = search needs
 
 returns-3 : tie.Need-returns-3
 unfolding runLength
@@ -87,7 +87,7 @@ run-length-spec =
     (tie.spec
     returns
     returns-2
-    power-below-requires
+    greatest-code-requires
     returns-3
     repeats-first-requires
     returns-4

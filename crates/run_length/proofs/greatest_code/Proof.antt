@@ -1,10 +1,10 @@
--- `run_length::power_below` meets its contract. Assumes nothing.
+-- `run_length::greatest_code` meets its contract. Assumes nothing.
 use Prim.Native.Nat.{_≤_}
 use lib.Pow.{pow-pos, pow-mono}
 use native.Mathlib.Omega.{arith}
 use borrow.Author.Needs.{needs}
-use Rattle.run_length.proofs.power_below.Statement.{statement}
-use Rattle.run_length.proofs.power_below.Tie as tie
+use Rattle.run_length.proofs.greatest_code.Statement.{statement}
+use Rattle.run_length.proofs.greatest_code.Tie as tie
 
 power-requires : tie.Need-power-requires
 power-requires c κs = search needs
@@ -18,5 +18,5 @@ small c = omega arith
 returns : tie.Need-returns
 returns c = omega (arith, pow-pos (c .before .args .bits), pow-mono {j = 15} (small c))
 
-pub power-below-spec : {M : Type 1} → statement M
-power-below-spec = tie.close (tie.spec power-requires sub-result returns)
+pub greatest-code-spec : {M : Type 1} → statement M
+greatest-code-spec = tie.close (tie.spec power-requires sub-result returns)
