@@ -79,12 +79,13 @@ fn digit(code: usize, greatest: usize) -> usize
     0
 }
 
-// Where reading ends: "fewer than b bits at the end are ignored".
+// Where reading ends: "fewer than b bits at the end are ignored". The octets that a code reaches into are rounded up by 7 more
+// bits, which cannot overflow here.
 fn ends(payload: &[u8], octet: OctetPlace, bit: usize, bits: usize) -> bool
     requires { ⌜ (octet .0 ≤ length (now payload)) × (bit ≤ 7) × (bits ≤ 15) ⌝ }
     ensures { λ r. ⌜ r ≡ ltb (length (now (payload .entry)) * 8) (octet .0 * 8 + bit + bits) ⌝ }
 {
-    payload.len() < octet.0 + places::octets_to(BitPlace(bit + bits)).0
+    payload.len() < octet.0 + places::octet_of(BitPlace(bit + bits + 7)).0
 }
 
 // Takes the next code. Levels and repeat codes alternate as the map has it, so a branch between them would be guessed wrong:
