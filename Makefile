@@ -3,6 +3,7 @@
 export RT_JOBS := $(shell nproc)
 CARGO := cargo --offline --quiet
 
+.NOTPARALLEL:
 .PHONY: desk test host compare freeze bench check fmt clean
 
 # The main job. Until the desk command exists: prove every crate and run the programs on document 01's cases.

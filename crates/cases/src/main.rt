@@ -1,4 +1,5 @@
-// Document 01's cases that are run, through the code as it is compiled. What each line must be stands in `stdout`.
+// Document 01's cases, and limits around them, run through the code as it is compiled. What each line must be stands in
+// `stdout`.
 ghost use Prim.Native.Nat.{_<_};
 use libc::STDOUT_FILENO;
 

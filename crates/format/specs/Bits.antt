@@ -3,7 +3,7 @@ use Prim.Native.Nat.{ℕ, zero, suc, _+_, _-_, _*_, _/_, _%_, _^_}
 use mathlib.Core.Bool.{cond}
 use mathlib.Core.List.{List, [], _∷_, _++_}
 use lib.Dec.{ltb, leb, eqb}
-use lib.ListN.{length, getD, drop}
+use lib.ListN.{length, getD}
 use Rattle.format.specs.Lists.{listed, anyOf, _over_}
 use Rattle.format.specs.Refusals.{Row, _gives_, first, Left, left}
 use Rattle.format.specs.declared.Refusal.the-variants.{Width, Short, Room, Numbers}

@@ -1,5 +1,5 @@
 -- Document 01, "Unpacking under 5.2 and 5.3": template 5.3. Assumes nothing.
-use Prim.Native.Nat.{ℕ, suc, _+_, _-_, _*_, _^_}
+use Prim.Native.Nat.{ℕ, suc, _-_, _*_, _^_}
 use mathlib.Core.Bool.{Bool, false, cond}
 use mathlib.Core.List.{List, [], _∷_, _++_, map, flatMap}
 use lib.Dec.{eqb, ltb}
@@ -87,10 +87,14 @@ abbrev pub refusals53 : Template → Differencing → ℕ → List ℕ → List 
 refusals53 t d declared payload lent =
     located53Refusals t d payload ++ countRefusals (descriptorsEnd d) t declared payload ++ roomRefusals declared lent
 
--- "12 leaves number 0 and mark 0 in the declared places"
+-- 12, "last": "12 leaves number 0 and mark 0 in the declared places"
+unfoldable pub left53 : ℕ → List DecodedValue → List ℕ → Left Unpacked
+left53 declared points lent =
+    first (λ r. left (unpacked.Refused r) (flatMap pointOctets (replicate declared (Normal (pos 0))) over lent))
+    (anyOf beyond points gives Beyond ∷ [])
+    (left (unpacked.Points declared) (flatMap pointOctets points over lent))
+
 unfoldable pub unpack53 : Template → Differencing → ℕ → List ℕ → List ℕ → Left Unpacked
 unpack53 t d declared payload lent =
     first (λ r. left (unpacked.Refused r) lent) (refusals53 t d declared payload lent)
-    (first (λ r. left (unpacked.Refused r) (flatMap pointOctets (replicate declared (Normal (pos 0))) over lent))
-    (anyOf beyond (points53 t d payload) gives Beyond ∷ [])
-    (left (unpacked.Points declared) (flatMap pointOctets (points53 t d payload) over lent)))
+    (left53 declared (points53 t d payload) lent)

@@ -1,6 +1,6 @@
 -- Document 01, "Port order and changes of shape": how points, levels, numbers and groups lie in lent octets, "all
 -- big-endian; spare octets short of a whole one are not used". Assumes nothing.
-use Prim.Native.Nat.{ℕ, suc, _-_, _/_, _*_, _%_, _^_}
+use Prim.Native.Nat.{ℕ, suc, _-_, _/_, _%_, _^_}
 use mathlib.Core.List.{List, [], _∷_, flatMap}
 use lib.ListN.{length}
 use lib.IntN.{ℤ, pos, negsuc}

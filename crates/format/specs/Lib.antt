@@ -8,4 +8,6 @@ pub mod Differences
 pub mod RunLength
 pub mod Grouping
 pub mod Packing
+pub mod Seen
 pub mod Cases
+pub mod Sentences

@@ -1,5 +1,5 @@
 -- Document 01, "Grouping and packing": template numbers and payload. Assumes nothing.
-use Prim.Native.Nat.{ℕ, zero, suc, _+_, _-_, _*_, _/_, _%_}
+use Prim.Native.Nat.{ℕ, zero, suc, _-_, _/_, _%_}
 use mathlib.Core.Bool.{cond}
 use mathlib.Core.List.{List, [], _∷_, _++_, map, flatMap}
 use lib.Dec.{eqb, leb, ltb}
@@ -7,9 +7,8 @@ use lib.ListN.{length, take, getD}
 use Rattle.format.specs.Lists.{greatest, least, _over_}
 use Rattle.format.specs.Bits.{roundedUp, stringOf, octetsOf}
 use Rattle.format.specs.Layout.{inFours, wholeOnes, groupSize, groupNumbers}
-use Rattle.format.specs.Refusals.{Row, _gives_, first}
+use Rattle.format.specs.Refusals.{_gives_, first}
 use Rattle.format.specs.Grouping.{bits, widthOf, groups01, recordsFrom, numberRefusals}
-use Rattle.format.specs.declared.Refusal.{Refusal}
 use Rattle.format.specs.declared.Refusal.the-variants.{Room}
 use Rattle.format.specs.declared.Template.{Template}
 use Rattle.format.specs.declared.Lengths.{Lengths}

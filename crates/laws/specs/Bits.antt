@@ -1,8 +1,8 @@
 -- The laws of bit fields, for all widths together. Assumes nothing.
 use mathlib.Core.Path.{_≡_, refl, sym, ap, ap₂, _∙_}
-use mathlib.Core.List.{List}
+use mathlib.Core.List.{List, _++_}
 use Prim.Native.Nat.{ℕ, zero, suc, _+_, _-_, _*_, _/_, _%_, _^_, _≤_, _<_}
-use native.Mathlib.Nat.{mul-assoc, pow-suc, pow-zero, mul-one, add-assoc, add-zero, add-suc, zero-add, zero-lt-suc, mod-lt, mod-one, mod-eq-of-lt, sub-self, div-one, not-suc-le-zero, mul-zero, div-lt-iff-lt-mul, div-add-mod', lt-of-lt-of-le, mul-le-mul, add-mul}
+use native.Mathlib.Nat.{mul-assoc, pow-suc, pow-zero, mul-one, add-assoc, add-zero, add-suc, zero-add, zero-lt-suc, mod-lt, mod-one, mod-eq-of-lt, sub-self, div-one, div-add-mod', lt-of-lt-of-le, mul-le-mul, add-mul}
 use native.Mathlib.Numerals.{add-one}
 use native.Mathlib.Omega.{arith}
 use lib.Arith.{digits-div, digits-mod}
@@ -10,7 +10,7 @@ use lib.Pow.{pow-mono, high, low, mod-pow-add, shr-shr}
 use lib.ListN.{getD}
 use Rattle.format.specs.Lists.{listed}
 use Rattle.format.specs.Bits.{bitIn, numberOf, fieldOf}
-use Rattle.laws.specs.Lists.{getD-listed, listed-ext}
+use Rattle.laws.specs.Lists.{getD-listed, listed-ext, listed-add}
 
 -- f is a source of bits
 abbrev pub Bits : (ℕ → ℕ) → Type 0
@@ -35,6 +35,13 @@ pub field-ext : (octets others : List ℕ) (p q w n : ℕ)
     → fieldOf octets p w n ≡ fieldOf others q w n
 field-ext octets others p q w n h =
     listed-ext n _ _ (λ k l. number-ext (bitIn 8 octets) (bitIn 8 others) (p + k * w) (q + k * w) w (λ i m. h k i l m))
+
+-- a field of m + n numbers is one of m, and one of n behind it
+pub field-add : (octets : List ℕ) (p w m n : ℕ) → fieldOf octets p w (m + n) ≡ fieldOf octets p w m ++ fieldOf octets (p + m * w) w n
+field-add octets p w m n =
+    listed-add m n (λ k. numberOf (bitIn 8 octets) (p + k * w) w)
+    ∙ ap (λ (l : List ℕ). fieldOf octets p w m ++ l)
+    (listed-ext n _ _ (λ i l. ap (λ (q : ℕ). numberOf (bitIn 8 octets) q w) (omega (arith, add-mul m i w))))
 
 -- ---- numbers and parts of numbers
 

@@ -1,6 +1,6 @@
 -- The count of binary digits. Assumes nothing.
 use mathlib.Core.Path.{_≡_, refl, ap, _∙_}
-use Prim.Native.Nat.{ℕ, zero, suc, _+_, _/_, _^_, _≤_, _<_}
+use Prim.Native.Nat.{ℕ, zero, suc, _+_, _/_, _^_, _<_}
 use native.Mathlib.Nat.{add-zero, add-suc, pow-suc}
 use native.Mathlib.Omega.{arith}
 use lib.Count.{leadingZeros}

@@ -6,4 +6,5 @@ pub mod Strings
 pub mod Digits
 pub mod Spans
 pub mod Written
+pub mod Fields
 pub mod Stores

@@ -1,7 +1,7 @@
 -- A store of some octets at a place, however many they are, and things that lie end to end in lent octets. Assumes nothing.
 use mathlib.Core.Path.{_≡_, refl, sym, ap, _∙_}
 use mathlib.Core.List.{List, [], _∷_, _++_, append-assoc, flatMap}
-use Prim.Native.Nat.{ℕ, zero, suc, _+_, _*_, _/_, _^_, _≤_, _<_}
+use Prim.Native.Nat.{ℕ, zero, suc, _+_, _*_, _^_, _≤_}
 use native.Mathlib.Nat.{add-zero, add-suc, zero-add, suc-add, suc-mul, zero-mul, add-mul, pow-suc}
 use native.Mathlib.Omega.{arith}
 use lib.ListN.{length, set, length-append}

@@ -1,8 +1,8 @@
 -- The laws of strings of bits, for all widths together. Assumes nothing.
-use mathlib.Core.Path.{_≡_, refl, sym, ap, _∙_}
+use mathlib.Core.Path.{_≡_, _∙_}
 use mathlib.Core.List.{List, [], _∷_, _++_, append-assoc}
 use Prim.Native.Nat.{ℕ, zero, suc, _+_, _*_, _/_, _%_, _^_, _≤_, _<_}
-use native.Mathlib.Nat.{add-assoc, add-mul, suc-mul, zero-lt-suc, mod-eq-of-lt, mul-le-mul-right, mul-zero, not-suc-le-zero, mul-add-div-right, mul-add-mod-self-right, div-lt-iff-lt-mul}
+use native.Mathlib.Nat.{add-assoc, add-mul, suc-mul, zero-lt-suc, mul-le-mul-right, mul-zero, not-suc-le-zero, mul-add-div-right, mul-add-mod-self-right, div-lt-iff-lt-mul}
 use native.Mathlib.Omega.{arith}
 use lib.ListN.{length, getD, length-append, List·getD-append, List·getD-eq-default}
 use lib.Seq.{getD-append-add}

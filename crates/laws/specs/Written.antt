@@ -3,15 +3,15 @@ use mathlib.Core.Path.{_≡_, refl, sym, ap, _∙_}
 use mathlib.Core.Bool.{false}
 use mathlib.Core.List.{List, [], _++_}
 use Prim.Native.Nat.{ℕ, zero, suc, _+_, _*_, _/_, _^_, _≤_, _<_}
-use native.Mathlib.Nat.{mod-eq-of-lt, zero-mul, suc-mul, mul-le-mul-right, not-suc-le-zero}
+use native.Mathlib.Nat.{mod-eq-of-lt, zero-mul, suc-mul, mul-le-mul-right}
 use native.Mathlib.Omega.{arith}
 use lib.Dec.{leb}
 use lib.ListN.{length, getD, drop, length-append, List·getD-append, List·getD-eq-default}
 use lib.Seq.{ext-getD, drop-at}
 use borrow.Author.Tests.{leb-false}
-use Rattle.format.specs.Lists.{listed, anyOf, _over_}
+use Rattle.format.specs.Lists.{listed, anyOf}
 use Rattle.format.specs.Bits.{bitIn, bitAt, numberOf, numberAt, fieldOf, bit, stringOf, octetsOf, spanOf, writtenBits, written}
-use Rattle.laws.specs.Lists.{length-listed, getD-listed, none-over, any-none}
+use Rattle.laws.specs.Lists.{length-listed, getD-listed, any-none}
 use Rattle.laws.specs.Bits.{Bits, bit-lt, number-ext, bit-listed}
 use Rattle.laws.specs.Strings.{bits-listed, bits-append, bits-string, length-string, number-own}
 use Rattle.laws.specs.Spans.{span-none, span-some}

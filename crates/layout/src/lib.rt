@@ -3,7 +3,7 @@ ghost use mathlib.Core.Path.{_≡_};
 ghost use Prim.Native.Nat.{_+_, _*_, _<_, _≤_, _^_};
 ghost use lib.ListN.{length};
 ghost use lib.Seq.{sets};
-ghost use Rattle.format.specs.Bits.{numberAt};
+ghost use Rattle.format.specs.Bits.{numberAt, fieldOf};
 ghost use Rattle.format.specs.Layout.{bigEndian, inFours, levelSize, levelOctets, pointSize, pointOctets, markOf, heldBy, twosComplement, groupSize, groupNumbers};
 use format::DecodedValue;
 use format::Group;
@@ -32,7 +32,21 @@ pub fn store_level(octets: &mut [u8], k: usize, level: u16)
     store(octets, k * 2, level as u64, 2);
 }
 
+pub fn level_in(octets: &[u8], k: usize) -> u16
+    requires { ⌜ (k + 1) * levelSize ≤ length (now octets) ⌝ }
+    ensures { λ r. ⌜ r ≡ numberAt (now (octets .entry)) (k * 16) 16 ⌝ }
+{
+    stream::read_in_octet(octets, OctetPlace(k * 2), 0, 16) as u16
+}
+
 // Number k of those that take four octets each.
+pub fn store_number(octets: &mut [u8], k: usize, number: u32)
+    requires { ⌜ (k + 1) * 4 ≤ length (now octets) ⌝ }
+    ensures { λ _. ⌜ now (octets .exit) ≡ sets (now (octets .entry)) (k * 4) (bigEndian 4 number) ⌝ }
+{
+    store(octets, k * 4, number as u64, 4);
+}
+
 pub fn number_in(octets: &[u8], k: usize) -> u32
     requires { ⌜ (k + 1) * 4 ≤ length (now octets) ⌝ }
     ensures { λ r. ⌜ r ≡ numberAt (now (octets .entry)) (k * 32) 32 ⌝ }
@@ -50,6 +64,19 @@ pub fn store_group(octets: &mut [u8], k: usize, group: Group)
     store(octets, at + 4, group.length as u64, 4);
     store(octets, at + 8, group.least as u64, 4);
     store(octets, at + 12, group.width as u64, 4);
+}
+
+pub fn group_in(octets: &[u8], k: usize) -> Group
+    requires { ⌜ (k + 1) * groupSize ≤ length (now octets) ⌝ }
+    ensures { λ r. ⌜ groupNumbers r ≡ fieldOf (now (octets .entry)) (k * 128) 32 4 ⌝ }
+{
+    let at = k * 4;
+    Group {
+        start: number_in(octets, at),
+        length: number_in(octets, at + 1),
+        least: number_in(octets, at + 2),
+        width: number_in(octets, at + 3),
+    }
 }
 
 fn mark_of(point: DecodedValue) -> u8

@@ -2,15 +2,15 @@
 use mathlib.Core.Path.{_≡_, refl, sym, ap, ap₂, _∙_}
 use mathlib.Core.Bool.{Bool, true, false}
 use mathlib.Core.List.{List, [], _∷_}
-use Prim.Native.Nat.{ℕ, zero, suc, _+_, _-_, _*_, _/_, _≤_, _<_}
-use native.Mathlib.Nat.{div-eq-of-lt, div-eq-sub-div, zero-mul, suc-mul, add-zero, add-assoc, zero-div}
+use Prim.Native.Nat.{ℕ, suc, _+_, _-_, _*_, _/_, _≤_, _<_}
+use native.Mathlib.Nat.{div-eq-of-lt, div-eq-sub-div, zero-mul, suc-mul, add-zero}
 use native.Mathlib.Numerals.{add-one}
 use native.Mathlib.Omega.{arith}
 use lib.Dec.{ltb}
 use borrow.Author.Tests.{lt-ltb, le-ltb, ltb-true, ltb-false}
 use lib.ListN.{length}
 use Rattle.format.specs.Lists.{listed}
-use Rattle.format.specs.Bits.{roundedUp, numberAt, fieldOf}
+use Rattle.format.specs.Bits.{roundedUp, numberAt}
 use Rattle.format.specs.RunLength.{codesLeft, codesFrom, codesIn, repeatsFirst}
 use Rattle.laws.specs.Lists.{listed-ext}
 

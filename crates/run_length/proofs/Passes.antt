@@ -6,12 +6,12 @@ use native.Mathlib.Nat.{sub-self, sub-zero, zero-sub}
 use native.Mathlib.Omega.{arith}
 use lib.ListN.{length, replicate, take, length-append, length-replicate, replicate-append-replicate}
 use lib.Seq.{sets, length-sets, take-nil, take-all}
-use Rattle.format.specs.Lists.{listed, _over_}
+use Rattle.format.specs.Lists.{_over_}
 use Rattle.format.specs.Layout.{levelOctets}
 use Rattle.format.specs.RunLength.{codesFrom, baseOf, levelsOf, levelsIn}
 use Rattle.laws.specs.Lists.{length-listed}
 use Rattle.laws.specs.Stores.{sets-append, flat-append, length-flat, flat-over}
-use Rattle.run_length.specs.Runs.{cap, placeOf, Coding, Within, Exactly, More, Told, Walked, firstRun}
+use Rattle.run_length.specs.Runs.{cap, placeOf, Within, Exactly, More, Walked, firstRun}
 use Rattle.run_length.specs.declared.Run.{Run}
 use Rattle.run_length.proofs.Caps.{sum-capped, rest-capped}
 

@@ -1,17 +1,17 @@
 -- A turn: one code, and what it means. Assumes nothing.
-use mathlib.Core.Path.{_≡_, refl, sym, ap, subst, _∙_}
+use mathlib.Core.Path.{_≡_, refl, sym, subst, _∙_}
 use mathlib.Core.Bool.{Bool, true, false, cond}
-use mathlib.Core.List.{List, [], _∷_, _++_}
+use mathlib.Core.List.{List, [], _∷_}
 use Prim.Native.Nat.{ℕ, _+_, _-_, _*_, _/_, _%_, _^_, _≤_, _<_, min}
 use native.Mathlib.Nat.{lt-of-lt-of-le, mul-comm, zero-mul, zero-add}
 use native.Mathlib.Omega.{arith}
 use lib.Pow.{pow-mono}
-use lib.ListN.{length, replicate}
+use lib.ListN.{length}
 use lib.Dec.{ltb, leb}
 use borrow.Author.Tests.{lt-ltb, le-ltb, ltb-true, ltb-false, leb-true, leb-false}
 use Rattle.format.specs.Bits.{numberAt}
 use Rattle.format.specs.RunLength.{codesFrom, baseOf, levelsOf}
-use Rattle.run_length.specs.Runs.{cap, placeOf, Coding, Within, Exactly, More, Told}
+use Rattle.run_length.specs.Runs.{cap, placeOf, Coding, Within, More, Told}
 use Rattle.run_length.specs.declared.Run.{Run}
 use Rattle.run_length.specs.declared.Turn.{Turn}
 use Rattle.run_length.specs.declared.Turn.the-variants as turn

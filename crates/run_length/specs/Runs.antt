@@ -1,7 +1,7 @@
 -- Runs, one code after another: what a turn owes to document 01's levels. Assumes nothing.
 use mathlib.Core.Path.{_≡_}
 use mathlib.Core.List.{List, [], _++_, flatMap}
-use Prim.Native.Nat.{ℕ, _+_, _-_, _*_, _/_, _^_, _≤_, _<_, min}
+use Prim.Native.Nat.{ℕ, _+_, _*_, _^_, _≤_, _<_, min}
 use lib.ListN.{length, replicate, take}
 use Rattle.format.specs.Lists.{_over_}
 use Rattle.format.specs.Layout.{levelOctets}

@@ -3,7 +3,7 @@ use mathlib.Core.Path.{_≡_, refl, sym, ap, _∙_}
 use mathlib.Core.Bool.{true, false}
 use mathlib.Core.List.{List, [], _∷_, _++_, append-nil}
 use Prim.Native.Nat.{ℕ, _+_, _-_, _*_, _/_, _%_, _^_, _≤_, _<_}
-use native.Mathlib.Nat.{zero-add, add-zero, zero-mul, mod-lt, mul-pos, suc-mul, mul-le-mul-right}
+use native.Mathlib.Nat.{zero-add, zero-mul, mod-lt, mul-pos, suc-mul, mul-le-mul-right}
 use native.Mathlib.Numerals.{add-one}
 use native.Mathlib.Omega.{arith}
 use lib.Pow.{pow-pos}
@@ -11,7 +11,7 @@ use lib.Dec.{leb}
 use lib.ListN.{length, getD, take, drop, length-append}
 use borrow.Author.Tests.{le-leb, lt-leb}
 use lib.Seq.{take-suc, take-all, length-take-le}
-use Rattle.format.specs.Lists.{listed, anyOf, _over_}
+use Rattle.format.specs.Lists.{listed, anyOf}
 use Rattle.format.specs.Bits.{bitAt, numberOf, bit, stringOf, spanOf, roundedUp, written}
 use Rattle.format.specs.Refusals.{left}
 use Rattle.format.specs.declared.OctetPlace.{OctetPlace}

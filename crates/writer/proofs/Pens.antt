@@ -10,7 +10,7 @@ use lib.ListN.{length, set, length-set, length-append}
 use Rattle.format.specs.Lists.{_over_}
 use Rattle.format.specs.Bits.{numberOf, bit, stringOf, octetsOf, roundedUp}
 use Rattle.laws.specs.Lists.{grown}
-use Rattle.laws.specs.Bits.{number-add, number-mid, number-below}
+use Rattle.laws.specs.Bits.{number-add, number-mid}
 use Rattle.laws.specs.Strings.{bits-append, bits-string, length-string, number-own, number-front, octets-front, number-past}
 use Rattle.writer.specs.Pen.{Held, Ready, Moved}
 use Rattle.writer.specs.declared.Pen.{Pen}

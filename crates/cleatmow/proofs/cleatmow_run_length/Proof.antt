@@ -1,6 +1,5 @@
 -- `cleatmow::cleatmow_run_length` meets its contract. Assumes nothing.
 use Rattle.cleatmow.proofs.Calls.{unrolled-done, unrolled-refused}
-use native.Mathlib.Omega.{arith}
 use borrow.Author.Needs.{needs}
 use Rattle.cleatmow.proofs.cleatmow_run_length.Statement.{statement}
 use Rattle.cleatmow.proofs.cleatmow_run_length.Tie as tie

@@ -1,5 +1,4 @@
 -- `layout::store_group` meets its contract. Assumes nothing.
-use native.Mathlib.Omega.{arith}
 use Rattle.layout.proofs.Stores.{group-stored}
 use borrow.Author.Needs.{needs}
 use Rattle.layout.proofs.store_group.Statement.{statement}

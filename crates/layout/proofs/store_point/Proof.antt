@@ -1,6 +1,5 @@
 -- `layout::store_point` meets its contract. Assumes nothing.
 use Rattle.layout.proofs.Stores.{point-stored}
-use native.Mathlib.Omega.{arith}
 use borrow.Author.Needs.{needs}
 use Rattle.layout.proofs.store_point.Statement.{statement}
 use Rattle.layout.proofs.store_point.Tie as tie

@@ -1,6 +1,5 @@
 -- `run_length::taken` meets its contract. Assumes nothing.
 use Rattle.run_length.proofs.Turns.{taken-end, taken-code}
-use native.Mathlib.Omega.{arith}
 use borrow.Author.Needs.{needs}
 use Rattle.run_length.proofs.taken.Statement.{statement}
 use Rattle.run_length.proofs.taken.Tie as tie

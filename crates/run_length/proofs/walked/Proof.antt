@@ -1,5 +1,5 @@
 -- `run_length::walked` meets its contract. Assumes nothing.
-use Prim.Native.Nat.{_-_, _*_, _^_, _≤_, _<_}
+use Prim.Native.Nat.{_-_, _*_, _^_, _<_}
 use lib.ListN.{length}
 use borrow.Author.Needs.{needs}
 use Rattle.run_length.specs.Runs.{placeOf}

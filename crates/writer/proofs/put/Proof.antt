@@ -1,5 +1,5 @@
 -- `writer::put` meets its contract: each turn sends an octet out. Assumes nothing.
-use Prim.Native.Nat.{_≤_, _^_}
+use Prim.Native.Nat.{_≤_}
 use lib.Pow.{pow-mono}
 use Rattle.writer.proofs.Pens.{Emitting, ready-small, emitting-start, emitting-more, emitting-end}
 use native.Mathlib.Omega.{arith}

@@ -2,7 +2,6 @@
 use borrow.Author.Tests.{lt-ltb, le-ltb}
 use Rattle.format.specs.Refusals.{first}
 use Rattle.stream.specs.Cursor.{madeAt}
-use native.Mathlib.Omega.{arith}
 use Rattle.stream.proofs.Cursor.new.Statement.{statement}
 use Rattle.stream.proofs.Cursor.new.Tie as tie
 

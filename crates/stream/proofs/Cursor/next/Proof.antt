@@ -1,7 +1,6 @@
 -- `stream::Cursor::next` meets its contract. Assumes nothing.
 use borrow.Author.Tests.{eq-eqb, ne-eqb}
 use Rattle.stream.specs.Cursor.{stepped}
-use native.Mathlib.Omega.{arith}
 use borrow.Author.Needs.{needs}
 use Rattle.stream.proofs.Cursor.next.Statement.{statement}
 use Rattle.stream.proofs.Cursor.next.Tie as tie

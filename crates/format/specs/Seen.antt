@@ -1,0 +1,171 @@
+-- What an operation shows: its number, what it answers, and the buffers that it leaves. Assumes nothing.
+use Prim.Native.Nat.{ℕ, _*_}
+use mathlib.Core.Path.{_≡_}
+use mathlib.Core.List.{List, [], _∷_, _++_, map, flatMap}
+use lib.ListN.{length, replicate}
+use lib.IntN.{pos}
+use Rattle.format.specs.Refusals.{Left, fetchedNumber, storedNumber, locatedNumber, unpackedNumber, unrolledNumber, packedNumber}
+use Rattle.format.specs.Bits.{readField, writeField}
+use Rattle.format.specs.Layout.{pointSize, pointOctets, levelSize, levelOctets, groupSize, inFours}
+use Rattle.format.specs.Unpacking.{unpack52}
+use Rattle.format.specs.Differences.{unpack53}
+use Rattle.format.specs.RunLength.{runLength}
+use Rattle.format.specs.Packing.{summarySize, pack}
+use Rattle.format.specs.declared.Template.{Template}
+use Rattle.format.specs.declared.DecodedValue.{DecodedValue}
+use Rattle.format.specs.declared.DecodedValue.the-variants.{Normal}
+use Rattle.format.specs.declared.Stored.{Stored}
+use Rattle.format.specs.declared.Stored.the-variants as stored
+use Rattle.format.specs.declared.Located.{Located}
+use Rattle.format.specs.declared.Located.the-variants as located
+use Rattle.format.specs.declared.Unpacked.{Unpacked}
+use Rattle.format.specs.declared.Unpacked.the-variants as unpacked
+use Rattle.format.specs.declared.Unrolled.{Unrolled}
+use Rattle.format.specs.declared.Unrolled.the-variants as unrolled
+use Rattle.format.specs.declared.Packed.{Packed}
+use Rattle.format.specs.declared.Packed.the-variants as packed
+
+pub record Seen : Type 0 where
+  pub number : ℕ
+  pub answers : List ℕ
+  pub left : List (List ℕ)
+
+pub data Case : Type 0 where
+  _shows_ : Seen → Seen → Case
+
+infix 70 _shows_
+abbrev pub found : Case → Seen
+found (x shows y) = x
+
+abbrev pub shown : Case → Seen
+shown (x shows y) = y
+
+-- "one list with one claim"
+abbrev pub AllHold : List Case → Type 0
+AllHold cases = map found cases ≡ map shown cases
+
+-- ---- what is expected
+
+-- a lent buffer before the operation: all octets, or all numbers, 255
+abbrev pub lent : ℕ → List ℕ
+lent n = replicate n 255
+
+abbrev pub refused : ℕ → List (List ℕ) → Seen
+refused number buffers = record { number = number; answers = []; left = buffers }
+
+abbrev pub answered : List ℕ → List (List ℕ) → Seen
+answered answers buffers = record { number = 0; answers = answers; left = buffers }
+
+abbrev pub numbers : List ℕ → Seen
+numbers xs = answered [] (xs ∷ [])
+
+abbrev pub spanned : ℕ → List ℕ → Seen
+spanned octets buffer = answered (octets ∷ []) (buffer ∷ [])
+
+abbrev pub number : ℕ → DecodedValue
+number n = Normal (pos n)
+
+abbrev pub points : List DecodedValue → Seen
+points ds = answered (length ds ∷ []) (flatMap pointOctets ds ∷ [])
+
+abbrev pub levels : List ℕ → Seen
+levels xs = answered (length xs ∷ []) (flatMap levelOctets xs ∷ [])
+
+-- four numbers each
+abbrev pub group : ℕ → ℕ → ℕ → ℕ → List ℕ
+group start count least width = start ∷ count ∷ least ∷ width ∷ []
+
+-- template numbers, payload and groups
+abbrev pub packs : List ℕ → List ℕ → List (List ℕ) → Seen
+packs templateNumbers payload groups =
+    answered (templateNumbers ++ (length payload ∷ []))
+    (flatMap inFours groups ∷ payload ∷ inFours (templateNumbers ++ (length groups ∷ length payload ∷ [])) ∷ [])
+
+-- ---- what operations show
+
+abbrev pub readingIn : List ℕ → ℕ → ℕ → ℕ → ℕ → Seen
+readingIn octets start width count room =
+    let r = readField octets start width count (lent room) in
+    record { number = fetchedNumber (r .answer); answers = []; left = r .buffer ∷ [] }
+
+abbrev pub reading : List ℕ → ℕ → ℕ → ℕ → Seen
+reading octets start width count = readingIn octets start width count count
+
+abbrev spanOf : Stored → List ℕ
+spanOf (stored.Span octets) = octets .0 ∷ []
+spanOf (stored.Refused r) = []
+
+abbrev pub writing : List ℕ → ℕ → ℕ → ℕ → Seen
+writing xs start width octets =
+    let r = writeField xs start width (lent octets) in
+    record { number = storedNumber (r .answer); answers = spanOf (r .answer); left = r .buffer ∷ [] }
+
+-- "Template numbers are listed as: number width; groups; width reference, width bits; length reference, increment, last, bits.
+-- Management is 0 [..] unless said."
+abbrev pub templateBy : ℕ → ℕ → ℕ → ℕ → ℕ → ℕ → ℕ → ℕ → ℕ → ℕ → Template
+templateBy splitting management width groups widthReference widthBits lengthReference increment last lengthBits = record {
+  width = width;
+  splitting = splitting;
+  management = management;
+  groups = groups;
+  widths = record { reference = widthReference; bits = widthBits };
+  lengths = record { reference = lengthReference; increment = increment; last = last; bits = lengthBits };
+}
+
+abbrev pub template : ℕ → ℕ → ℕ → ℕ → ℕ → ℕ → ℕ → ℕ → ℕ → Template
+template = templateBy 1
+
+abbrev countOf : Unpacked → List ℕ
+countOf (unpacked.Points count) = count ∷ []
+countOf (unpacked.Refused r) = []
+
+abbrev pub unpacks : Left Unpacked → Seen
+unpacks r = record { number = unpackedNumber (r .answer); answers = countOf (r .answer); left = r .buffer ∷ [] }
+
+-- in so many lent octets
+abbrev pub unpackingIn : Template → ℕ → List ℕ → ℕ → Seen
+unpackingIn t declared payload room = unpacks (unpack52 t declared payload (lent room))
+
+abbrev pub unpacking : Template → ℕ → List ℕ → Seen
+unpacking t declared payload = unpackingIn t declared payload (declared * pointSize)
+
+abbrev pub restoringIn : ℕ → ℕ → Template → ℕ → List ℕ → ℕ → Seen
+restoringIn order octets t declared payload room =
+    unpacks (unpack53 t (record { order = order; octets = octets }) declared payload (lent room))
+
+abbrev pub restoring : ℕ → ℕ → Template → ℕ → List ℕ → Seen
+restoring order octets t declared payload = restoringIn order octets t declared payload (declared * pointSize)
+
+-- where the parts begin, where the values end, and how many points there are
+abbrev pub locates : Located → Seen
+locates (located.At p points) =
+    answered (p .references .0 ∷ p .widths .0 ∷ p .lengths .0 ∷ p .values .0 ∷ p .end .0 ∷ points ∷ []) []
+locates (located.Refused r) = refused (locatedNumber (located.Refused r)) []
+
+abbrev levelsCount : Unrolled → List ℕ
+levelsCount (unrolled.Levels count) = count ∷ []
+levelsCount (unrolled.Refused r) = []
+
+abbrev pub unrollingIn : ℕ → ℕ → ℕ → List ℕ → ℕ → Seen
+unrollingIn b M declared payload room =
+    let r = runLength b M declared payload (lent room) in
+    record { number = unrolledNumber (r .answer); answers = levelsCount (r .answer); left = r .buffer ∷ [] }
+
+abbrev pub unrolling : ℕ → ℕ → ℕ → List ℕ → Seen
+unrolling b M declared payload = unrollingIn b M declared payload (declared * levelSize)
+
+abbrev packedAnswers : Packed → List ℕ
+packedAnswers (packed.Payload t octets) =
+    t .width ∷ t .groups ∷ t .widths .reference ∷ t .widths .bits ∷ t .lengths .reference ∷ t .lengths .increment
+    ∷ t .lengths .last ∷ t .lengths .bits ∷ octets .0 ∷ []
+packedAnswers (packed.Refused r) = []
+
+-- room for g groups and n octets of payload
+abbrev pub packing : ℕ → List ℕ → ℕ → ℕ → Seen
+packing k xs g n =
+    let r = pack k xs (lent (g * groupSize)) (lent n) (lent summarySize) in
+    record {
+      number = packedNumber (r .answer);
+      answers = packedAnswers (r .answer);
+      left = r .groups ∷ r .payload ∷ r .summary ∷ [];
+    }

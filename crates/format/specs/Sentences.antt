@@ -1,0 +1,99 @@
+-- Sentences of document 01 that no case of its own shows: one list with one claim. Assumes nothing.
+use mathlib.Core.Path.{refl}
+use mathlib.Core.List.{List, [], _∷_, _++_, flatMap}
+use Prim.Native.Nat.{_+_, _^_}
+use lib.IntN.{pos, negsuc, negℤ}
+use Rattle.format.specs.Seen.{Case, _shows_, AllHold, lent, refused, answered, spanned, number, points, levels, group, packs, readingIn, writing, templateBy, template, unpacks, unpackingIn, unpacking, restoringIn, restoring, locates, unrollingIn, unrolling, packing}
+use Rattle.format.specs.Lists.{listed, total, joined, anyOf, greatest, least}
+use Rattle.format.specs.Refusals.{first}
+use Rattle.format.specs.Bits.{bitIn, numberOf, spanOf, readField, writeField}
+use Rattle.format.specs.Template.{widthsAt, lengthsAt, valuesAt}
+use Rattle.format.specs.Unpacking.{codesOf, referenceOf, saidBy, groupWidth, groupLength, pointsBefore, bitsBefore, wrongGroup, decoded, pointOf, pointAt, pointsUpTo, placesOf, locate52, unpack52}
+use Rattle.format.specs.Differences.{descriptorsOf, raised, expected, restored, beyond, points53, locate53, left53, unpack53}
+use Rattle.format.specs.RunLength.{codesLeft, levelsOf, repeatsFirst, levelsIn, runLength}
+use Rattle.format.specs.Grouping.{digitsIn, bits, widthOf, endsBefore, groupsFrom, groupsOf, recordsFrom}
+use Rattle.format.specs.Packing.{summarySize, widthCoding, gcdIn, gcd, gcdFrom, divisorUpTo, incrementOf, butLast, lengthCoding, templateOf, lengthCodes, valueString, payloadOf, packingOf, pack}
+use Rattle.format.specs.Layout.{pointOctets, inFours}
+use Rattle.format.specs.declared.DecodedValue.the-variants.{Normal, Missing1, Missing2}
+
+abbrev pub sentences : List Case
+sentences =
+    -- the order of refusals: all faults at once, then one fewer each time
+    -- 5.2
+    unpackingIn (templateBy 0 3 32 0 32 0 0 0 4 0) 1 [] 35 shows refused 1 (lent 35 ∷ [])
+    ∷ unpackingIn (templateBy 1 3 32 0 32 0 0 0 4 0) 1 [] 35 shows refused 2 (lent 35 ∷ [])
+    ∷ unpackingIn (templateBy 1 0 32 0 32 0 0 0 4 0) 1 [] 35 shows refused 6 (lent 35 ∷ [])
+    ∷ unpackingIn (templateBy 1 0 32 1 32 0 0 0 4 0) 1 [] 35 shows refused 5 (lent 35 ∷ [])
+    ∷ unpackingIn (templateBy 1 0 8 1 32 0 0 0 4 0) 1 [] 35 shows refused 7 (lent 35 ∷ [])
+    ∷ unpackingIn (templateBy 1 0 8 1 32 0 0 0 4 0) 1 (0x00 ∷ []) 35 shows refused 8 (lent 35 ∷ [])
+    ∷ unpackingIn (templateBy 1 0 8 1 3 0 0 0 4 0) 1 (0x00 ∷ []) 35 shows refused 7 (lent 35 ∷ [])
+    ∷ unpackingIn (templateBy 1 0 8 1 3 0 0 0 4 0) 1 (0x00 ∷ 0x0C ∷ 0x50 ∷ []) 35 shows refused 9 (lent 35 ∷ [])
+    ∷ unpackingIn (templateBy 1 0 8 1 3 0 0 0 4 0) 4 (0x00 ∷ 0x0C ∷ 0x50 ∷ []) 35 shows refused 10 (lent 35 ∷ [])
+    ∷ unpackingIn (templateBy 1 0 8 1 3 0 0 0 4 0) 4 (0x00 ∷ 0x0C ∷ 0x50 ∷ []) 36 shows points (number 0 ∷ number 3 ∷ number 0 ∷ number 5 ∷ [])
+    -- 5.3, but for 12
+    ∷ restoringIn 0 0 (templateBy 0 3 32 0 32 0 0 0 4 0) 1 [] 35 shows refused 3 (lent 35 ∷ [])
+    ∷ restoringIn 1 0 (templateBy 0 3 32 0 32 0 0 0 4 0) 1 [] 35 shows refused 1 (lent 35 ∷ [])
+    ∷ restoringIn 1 0 (templateBy 1 3 32 0 32 0 0 0 4 0) 1 [] 35 shows refused 2 (lent 35 ∷ [])
+    ∷ restoringIn 1 0 (templateBy 1 0 32 0 32 0 0 0 4 0) 1 [] 35 shows refused 4 (lent 35 ∷ [])
+    ∷ restoringIn 1 1 (templateBy 1 0 32 0 32 0 0 0 4 0) 1 [] 35 shows refused 7 (lent 35 ∷ [])
+    ∷ restoringIn 1 1 (templateBy 1 0 32 0 32 0 0 0 4 0) 1 (0x0A ∷ 0x82 ∷ []) 35 shows refused 6 (lent 35 ∷ [])
+    ∷ restoringIn 1 1 (templateBy 1 0 32 1 32 0 0 0 4 0) 1 (0x0A ∷ 0x82 ∷ []) 35 shows refused 5 (lent 35 ∷ [])
+    ∷ restoringIn 1 1 (templateBy 1 0 8 1 32 0 0 0 4 0) 1 (0x0A ∷ 0x82 ∷ []) 35 shows refused 7 (lent 35 ∷ [])
+    ∷ restoringIn 1 1 (templateBy 1 0 8 1 32 0 0 0 4 0) 1 (0x0A ∷ 0x82 ∷ 0x00 ∷ []) 35 shows refused 8 (lent 35 ∷ [])
+    ∷ restoringIn 1 1 (templateBy 1 0 8 1 3 0 0 0 4 0) 1 (0x0A ∷ 0x82 ∷ 0x00 ∷ []) 35 shows refused 7 (lent 35 ∷ [])
+    ∷ restoringIn 1 1 (templateBy 1 0 8 1 3 0 0 0 4 0) 1 (0x0A ∷ 0x82 ∷ 0x00 ∷ 0x0C ∷ 0x50 ∷ []) 35 shows refused 9 (lent 35 ∷ [])
+    ∷ restoringIn 1 1 (templateBy 1 0 8 1 3 0 0 0 4 0) 4 (0x0A ∷ 0x82 ∷ 0x00 ∷ 0x0C ∷ 0x50 ∷ []) 35 shows refused 10 (lent 35 ∷ [])
+    ∷ restoringIn 1 1 (templateBy 1 0 8 1 3 0 0 0 4 0) 4 (0x0A ∷ 0x82 ∷ 0x00 ∷ 0x0C ∷ 0x50 ∷ []) 36 shows points (number 10 ∷ number 11 ∷ number 9 ∷ number 12 ∷ [])
+    -- run-length
+    ∷ unrollingIn 0 9 1 (0xCB ∷ []) 5 shows refused 5 (lent 5 ∷ [])
+    ∷ unrollingIn 16 9 1 (0xCB ∷ []) 5 shows refused 5 (lent 5 ∷ [])
+    ∷ unrollingIn 4 16 1 (0xCB ∷ []) 5 shows refused 5 (lent 5 ∷ [])
+    ∷ unrollingIn 4 9 1 (0xCB ∷ []) 5 shows refused 11 (lent 5 ∷ [])
+    ∷ unrollingIn 4 9 1 (0x3C ∷ []) 5 shows refused 9 (lent 5 ∷ [])
+    ∷ unrollingIn 4 9 3 (0x3C ∷ []) 5 shows refused 10 (lent 5 ∷ [])
+    ∷ unrollingIn 4 9 3 (0x3C ∷ []) 6 shows levels (3 ∷ 3 ∷ 3 ∷ [])
+    -- bit reader
+    ∷ readingIn (0xBA ∷ []) 0 33 4 3 shows refused 5 (lent 3 ∷ [])
+    ∷ readingIn (0xBA ∷ []) 8 3 4 3 shows refused 5 (lent 3 ∷ [])
+    ∷ readingIn (0xBA ∷ []) 0 3 4 3 shows refused 7 (lent 3 ∷ [])
+    ∷ readingIn (0xBA ∷ 0xF0 ∷ []) 0 3 4 3 shows refused 10 (lent 3 ∷ [])
+    -- bit writer
+    ∷ writing (256 ∷ []) 0 33 0 shows refused 5 ([] ∷ [])
+    ∷ writing (256 ∷ []) 8 8 0 shows refused 5 ([] ∷ [])
+    ∷ writing (32 ∷ []) 7 5 1 shows refused 13 (lent 1 ∷ [])
+    ∷ writing (31 ∷ []) 7 5 1 shows refused 10 (lent 1 ∷ [])
+    -- packing; what 10 leaves
+    ∷ packing 0 (2147483648 ∷ []) 0 0 shows refused 13 ([] ∷ [] ∷ lent summarySize ∷ [])
+    ∷ packing 1 (5 ∷ 6 ∷ 5 ∷ 7 ∷ []) 2 2 shows refused 10 (flatMap inFours (group 0 1 5 0 ∷ group 1 1 6 0 ∷ []) ∷ lent 2 ∷ lent summarySize ∷ [])
+    ∷ packing 1 (5 ∷ 6 ∷ 5 ∷ 7 ∷ []) 4 1 shows refused 10 (flatMap inFours (group 0 1 5 0 ∷ group 1 1 6 0 ∷ group 2 1 5 0 ∷ group 3 1 7 0 ∷ []) ∷ lent 1 ∷ lent summarySize ∷ [])
+    -- the bit writer
+    ∷ writing (5 ∷ 6 ∷ 5 ∷ 7 ∷ []) 0 3 3 shows spanned 2 (0xBA ∷ 0xF0 ∷ 0xFF ∷ [])
+    ∷ writing (29 ∷ 15 ∷ []) 2 5 3 shows spanned 2 (0xFA ∷ 0xF0 ∷ 0xFF ∷ [])
+    ∷ writing [] 2 5 3 shows spanned 0 (0xFF ∷ 0xFF ∷ 0xFF ∷ [])
+    ∷ writing (31 ∷ []) 7 5 2 shows spanned 2 (0xFF ∷ 0xF0 ∷ [])
+    -- "length reference + increment × code"
+    ∷ unpacking (template 0 3 3 1 0 2 2 1 1) 7 (0xA3 ∷ 0x80 ∷ 0x40 ∷ 0x6A ∷ []) shows points (number 5 ∷ number 6 ∷ number 1 ∷ number 0 ∷ number 1 ∷ number 0 ∷ number 8 ∷ [])
+    ∷ packing 1 (0 ∷ 0 ∷ 8 ∷ 8 ∷ 8 ∷ 8 ∷ 0 ∷ []) 3 3 shows packs (4 ∷ 3 ∷ 0 ∷ 0 ∷ 2 ∷ 2 ∷ 1 ∷ 1 ∷ []) (0x08 ∷ 0x00 ∷ 0x40 ∷ []) (group 0 2 0 0 ∷ group 2 4 8 0 ∷ group 6 1 0 0 ∷ [])
+    -- first values have no sign; "Missing points do not advance this."
+    ∷ restoring 2 4 (template 0 31 1 0 0 0 0 4 0) 4 (0x80 ∷ 0 ∷ 0 ∷ 0 ∷ 0 ∷ 0 ∷ 0 ∷ 1 ∷ 0x80 ∷ 0 ∷ 0 ∷ 0 ∷ 0 ∷ 0 ∷ 0 ∷ 0 ∷ []) shows points (number 2147483648 ∷ number 1 ∷ Normal (negsuc 2147483645) ∷ Normal (negsuc 4294967292) ∷ [])
+    ∷ restoring 1 1 (template 1 0 1 3 0 0 0 5 0) 5 (0x0A ∷ 0x82 ∷ 0xE3 ∷ 0xBA ∷ []) shows points (Missing1 ∷ number 10 ∷ Missing1 ∷ number 11 ∷ number 14 ∷ [])
+    ∷ restoring 2 1 (template 1 0 1 2 0 0 0 5 0) 5 (0x0A ∷ 0x0C ∷ 0x81 ∷ 0x33 ∷ 0x40 ∷ []) shows points (number 10 ∷ Missing1 ∷ number 12 ∷ Missing1 ∷ number 14 ∷ [])
+    -- 12: "beyond 2^60 either way", and what it leaves
+    ∷ unpacks (left53 2 (number (2 ^ 60) ∷ Normal (negℤ (pos (2 ^ 60))) ∷ []) (lent 19)) shows answered (2 ∷ []) ((flatMap pointOctets (number (2 ^ 60) ∷ Normal (negℤ (pos (2 ^ 60))) ∷ []) ++ lent 1) ∷ [])
+    ∷ unpacks (left53 2 (Missing1 ∷ number (2 ^ 60 + 1) ∷ []) (lent 19)) shows refused 12 ((flatMap pointOctets (number 0 ∷ number 0 ∷ []) ++ lent 1) ∷ [])
+    ∷ unpacks (left53 2 (Normal (negℤ (pos (2 ^ 60 + 1))) ∷ Missing2 ∷ []) (lent 19)) shows refused 12 ((flatMap pointOctets (number 0 ∷ number 0 ∷ []) ++ lent 1) ∷ [])
+    -- where the parts are
+    ∷ locates (locate52 (template 0 3 2 0 1 3 0 1 0) (0xBC ∷ 0x80 ∷ 0x40 ∷ [])) shows answered (0 ∷ 1 ∷ 2 ∷ 2 ∷ 3 ∷ 4 ∷ []) []
+    ∷ locates (locate52 (template 0 3 2 0 1 3 0 1 0) (0xBC ∷ 0x80 ∷ [])) shows refused 7 []
+    ∷ locates (locate53 (template 0 0 1 3 0 0 0 4 0) (record { order = 1; octets = 1 }) (0x0A ∷ 0x82 ∷ 0x0C ∷ 0x50 ∷ [])) shows answered (2 ∷ 2 ∷ 2 ∷ 2 ∷ 4 ∷ 4 ∷ []) []
+    -- run-length: no repeat codes; a base of one; "fewer than b bits at the end are ignored"
+    ∷ unrolling 4 15 2 (0x3F ∷ []) shows levels (3 ∷ 15 ∷ [])
+    ∷ unrolling 4 14 2 (0x3F ∷ 0xE0 ∷ []) shows refused 9 (lent 4 ∷ [])
+    ∷ unrolling 4 14 3 (0x3F ∷ 0xE0 ∷ []) shows levels (3 ∷ 14 ∷ 0 ∷ [])
+    ∷ unrolling 3 7 2 (0x53 ∷ []) shows levels (2 ∷ 4 ∷ [])
+    ∷ unrolling 9 3 0 (0xFF ∷ []) shows levels []
+    ∷ []
+
+pub all-hold : AllHold sentences
+unfolding listed referenceOf total joined anyOf greatest least flatMap first bitIn numberOf spanOf readField writeField widthsAt lengthsAt valuesAt codesOf saidBy groupWidth groupLength pointsBefore bitsBefore wrongGroup decoded pointOf pointAt pointsUpTo placesOf locate52 unpack52 descriptorsOf raised expected restored beyond points53 locate53 left53 unpack53 codesLeft levelsOf repeatsFirst levelsIn runLength digitsIn bits widthOf endsBefore groupsFrom groupsOf recordsFrom widthCoding gcdIn gcd gcdFrom divisorUpTo incrementOf butLast lengthCoding templateOf lengthCodes valueString payloadOf packingOf pack
+all-hold = refl
