@@ -19,15 +19,22 @@ cases =
     -- those marked P
     reading (0xBA ∷ 0xF0 ∷ []) 0 3 4 shows numbers (5 ∷ 6 ∷ 5 ∷ 7 ∷ [])
     ∷ reading (0xBA ∷ 0xF0 ∷ []) 2 5 2 shows numbers (29 ∷ 15 ∷ [])
-    ∷ packing 2 (0 ∷ 0 ∷ 0 ∷ 0 ∷ 8 ∷ 8 ∷ 8 ∷ []) 2 1 shows packs (4 ∷ 2 ∷ 0 ∷ 0 ∷ 4 ∷ 0 ∷ 3 ∷ 0 ∷ []) (0x08 ∷ []) (group 0 4 0 0 ∷ group 4 3 8 0 ∷ [])
-    ∷ packing 1 (5 ∷ 6 ∷ 5 ∷ 7 ∷ []) 4 2 shows packs (3 ∷ 4 ∷ 0 ∷ 0 ∷ 1 ∷ 0 ∷ 1 ∷ 0 ∷ []) (0xBA ∷ 0xF0 ∷ []) (group 0 1 5 0 ∷ group 1 1 6 0 ∷ group 2 1 5 0 ∷ group 3 1 7 0 ∷ [])
-    ∷ packing 4 (5 ∷ 6 ∷ 5 ∷ 7 ∷ []) 2 3 shows packs (3 ∷ 2 ∷ 0 ∷ 1 ∷ 3 ∷ 0 ∷ 1 ∷ 0 ∷ []) (0xBC ∷ 0x80 ∷ 0x40 ∷ []) (group 0 3 5 1 ∷ group 3 1 7 0 ∷ [])
-    ∷ unpacking (template 1 3 2 0 1 3 0 1 0) 4 (0xBC ∷ 0x80 ∷ 0x40 ∷ []) shows points (number 5 ∷ Missing1 ∷ number 5 ∷ Missing1 ∷ [])
-    ∷ unpacking (template 2 3 2 0 1 3 0 1 0) 4 (0xBC ∷ 0x80 ∷ 0x40 ∷ []) shows points (Missing2 ∷ Missing1 ∷ Missing2 ∷ Missing1 ∷ [])
+    ∷ packing 2 (0 ∷ 0 ∷ 0 ∷ 0 ∷ 8 ∷ 8 ∷ 8 ∷ []) 2 1
+    shows packs (4 ∷ 2 ∷ 0 ∷ 0 ∷ 4 ∷ 0 ∷ 3 ∷ 0 ∷ []) (0x08 ∷ []) (group 0 4 0 0 ∷ group 4 3 8 0 ∷ [])
+    ∷ packing 1 (5 ∷ 6 ∷ 5 ∷ 7 ∷ []) 4 2
+    shows packs (3 ∷ 4 ∷ 0 ∷ 0 ∷ 1 ∷ 0 ∷ 1 ∷ 0 ∷ []) (0xBA ∷ 0xF0 ∷ []) (group 0 1 5 0 ∷ group 1 1 6 0 ∷ group 2 1 5 0 ∷ group 3 1 7 0 ∷ [])
+    ∷ packing 4 (5 ∷ 6 ∷ 5 ∷ 7 ∷ []) 2 3
+    shows packs (3 ∷ 2 ∷ 0 ∷ 1 ∷ 3 ∷ 0 ∷ 1 ∷ 0 ∷ []) (0xBC ∷ 0x80 ∷ 0x40 ∷ []) (group 0 3 5 1 ∷ group 3 1 7 0 ∷ [])
+    ∷ unpacking (template 1 3 2 0 1 3 0 1 0) 4 (0xBC ∷ 0x80 ∷ 0x40 ∷ [])
+    shows points (number 5 ∷ Missing1 ∷ number 5 ∷ Missing1 ∷ [])
+    ∷ unpacking (template 2 3 2 0 1 3 0 1 0) 4 (0xBC ∷ 0x80 ∷ 0x40 ∷ [])
+    shows points (Missing2 ∷ Missing1 ∷ Missing2 ∷ Missing1 ∷ [])
     ∷ unpacking (template 0 0 1 0 0 0 0 3 0) 3 [] shows points (number 0 ∷ number 0 ∷ number 0 ∷ [])
     ∷ unpacking (template 1 0 1 0 0 0 0 3 0) 3 [] shows points (Missing1 ∷ Missing1 ∷ Missing1 ∷ [])
-    ∷ restoring 1 1 (template 0 0 1 3 0 0 0 4 0) 4 (0x0A ∷ 0x82 ∷ 0x0C ∷ 0x50 ∷ []) shows points (number 10 ∷ number 11 ∷ number 9 ∷ number 12 ∷ [])
-    ∷ restoring 2 1 (template 0 0 1 2 0 0 0 4 0) 4 (0x0A ∷ 0x0C ∷ 0x81 ∷ 0x09 ∷ []) shows points (number 10 ∷ number 12 ∷ number 15 ∷ number 18 ∷ [])
+    ∷ restoring 1 1 (template 0 0 1 3 0 0 0 4 0) 4 (0x0A ∷ 0x82 ∷ 0x0C ∷ 0x50 ∷ [])
+    shows points (number 10 ∷ number 11 ∷ number 9 ∷ number 12 ∷ [])
+    ∷ restoring 2 1 (template 0 0 1 2 0 0 0 4 0) 4 (0x0A ∷ 0x0C ∷ 0x81 ∷ 0x09 ∷ [])
+    shows points (number 10 ∷ number 12 ∷ number 15 ∷ number 18 ∷ [])
     ∷ unrolling 4 9 10 (0x3C ∷ 0xB5 ∷ []) shows levels (3 ∷ 3 ∷ 3 ∷ 3 ∷ 3 ∷ 3 ∷ 3 ∷ 3 ∷ 3 ∷ 5 ∷ [])
     ∷ unrolling 4 9 9 (0x3C ∷ 0xB5 ∷ []) shows refused 9 (lent 18 ∷ [])
     -- the others, but for the list of 325 numbers: its length coding stands below
@@ -39,7 +46,8 @@ cases =
     ∷ unpacking (template 0 0 1 32 0 0 0 1 0) 1 (0xFF ∷ 0xFF ∷ 0xFF ∷ 0xFE ∷ []) shows refused 8 (lent 9 ∷ [])
     ∷ unpacking (template 0 0 1 0 0 0 0 1 32) 1 (0 ∷ 0 ∷ 0 ∷ 0 ∷ []) shows points (number 0 ∷ [])
     ∷ unpacking (template 0 0 1 0 0 0 0 1 33) 1 (0 ∷ 0 ∷ 0 ∷ 0 ∷ 0 ∷ []) shows refused 5 (lent 9 ∷ [])
-    ∷ packing 1 (2147483647 ∷ []) 1 4 shows packs (31 ∷ 1 ∷ 0 ∷ 0 ∷ 0 ∷ 0 ∷ 1 ∷ 0 ∷ []) (0xFF ∷ 0xFF ∷ 0xFF ∷ 0xFE ∷ []) (group 0 1 2147483647 0 ∷ [])
+    ∷ packing 1 (2147483647 ∷ []) 1 4
+    shows packs (31 ∷ 1 ∷ 0 ∷ 0 ∷ 0 ∷ 0 ∷ 1 ∷ 0 ∷ []) (0xFF ∷ 0xFF ∷ 0xFF ∷ 0xFE ∷ []) (group 0 1 2147483647 0 ∷ [])
     ∷ packing 1 (2147483648 ∷ []) 1 4 shows refused 13 (lent groupSize ∷ lent 4 ∷ lent summarySize ∷ [])
     ∷ packing 0 (1 ∷ []) 1 4 shows refused 13 (lent groupSize ∷ lent 4 ∷ lent summarySize ∷ [])
     ∷ []

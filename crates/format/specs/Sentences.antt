@@ -29,7 +29,8 @@ sentences =
     ∷ unpackingIn (templateBy 1 0 8 1 3 0 0 0 4 0) 1 (0x00 ∷ []) 35 shows refused 7 (lent 35 ∷ [])
     ∷ unpackingIn (templateBy 1 0 8 1 3 0 0 0 4 0) 1 (0x00 ∷ 0x0C ∷ 0x50 ∷ []) 35 shows refused 9 (lent 35 ∷ [])
     ∷ unpackingIn (templateBy 1 0 8 1 3 0 0 0 4 0) 4 (0x00 ∷ 0x0C ∷ 0x50 ∷ []) 35 shows refused 10 (lent 35 ∷ [])
-    ∷ unpackingIn (templateBy 1 0 8 1 3 0 0 0 4 0) 4 (0x00 ∷ 0x0C ∷ 0x50 ∷ []) 36 shows points (number 0 ∷ number 3 ∷ number 0 ∷ number 5 ∷ [])
+    ∷ unpackingIn (templateBy 1 0 8 1 3 0 0 0 4 0) 4 (0x00 ∷ 0x0C ∷ 0x50 ∷ []) 36
+    shows points (number 0 ∷ number 3 ∷ number 0 ∷ number 5 ∷ [])
     -- 5.3, but for 12
     ∷ restoringIn 0 0 (templateBy 0 3 32 0 32 0 0 0 4 0) 1 [] 35 shows refused 3 (lent 35 ∷ [])
     ∷ restoringIn 1 0 (templateBy 0 3 32 0 32 0 0 0 4 0) 1 [] 35 shows refused 1 (lent 35 ∷ [])
@@ -41,9 +42,12 @@ sentences =
     ∷ restoringIn 1 1 (templateBy 1 0 8 1 32 0 0 0 4 0) 1 (0x0A ∷ 0x82 ∷ []) 35 shows refused 7 (lent 35 ∷ [])
     ∷ restoringIn 1 1 (templateBy 1 0 8 1 32 0 0 0 4 0) 1 (0x0A ∷ 0x82 ∷ 0x00 ∷ []) 35 shows refused 8 (lent 35 ∷ [])
     ∷ restoringIn 1 1 (templateBy 1 0 8 1 3 0 0 0 4 0) 1 (0x0A ∷ 0x82 ∷ 0x00 ∷ []) 35 shows refused 7 (lent 35 ∷ [])
-    ∷ restoringIn 1 1 (templateBy 1 0 8 1 3 0 0 0 4 0) 1 (0x0A ∷ 0x82 ∷ 0x00 ∷ 0x0C ∷ 0x50 ∷ []) 35 shows refused 9 (lent 35 ∷ [])
-    ∷ restoringIn 1 1 (templateBy 1 0 8 1 3 0 0 0 4 0) 4 (0x0A ∷ 0x82 ∷ 0x00 ∷ 0x0C ∷ 0x50 ∷ []) 35 shows refused 10 (lent 35 ∷ [])
-    ∷ restoringIn 1 1 (templateBy 1 0 8 1 3 0 0 0 4 0) 4 (0x0A ∷ 0x82 ∷ 0x00 ∷ 0x0C ∷ 0x50 ∷ []) 36 shows points (number 10 ∷ number 11 ∷ number 9 ∷ number 12 ∷ [])
+    ∷ restoringIn 1 1 (templateBy 1 0 8 1 3 0 0 0 4 0) 1 (0x0A ∷ 0x82 ∷ 0x00 ∷ 0x0C ∷ 0x50 ∷ []) 35
+    shows refused 9 (lent 35 ∷ [])
+    ∷ restoringIn 1 1 (templateBy 1 0 8 1 3 0 0 0 4 0) 4 (0x0A ∷ 0x82 ∷ 0x00 ∷ 0x0C ∷ 0x50 ∷ []) 35
+    shows refused 10 (lent 35 ∷ [])
+    ∷ restoringIn 1 1 (templateBy 1 0 8 1 3 0 0 0 4 0) 4 (0x0A ∷ 0x82 ∷ 0x00 ∷ 0x0C ∷ 0x50 ∷ []) 36
+    shows points (number 10 ∷ number 11 ∷ number 9 ∷ number 12 ∷ [])
     -- run-length
     ∷ unrollingIn 0 9 1 (0xCB ∷ []) 5 shows refused 5 (lent 5 ∷ [])
     ∷ unrollingIn 16 9 1 (0xCB ∷ []) 5 shows refused 5 (lent 5 ∷ [])
@@ -64,28 +68,39 @@ sentences =
     ∷ writing (31 ∷ []) 7 5 1 shows refused 10 (lent 1 ∷ [])
     -- packing; what 10 leaves
     ∷ packing 0 (2147483648 ∷ []) 0 0 shows refused 13 ([] ∷ [] ∷ lent summarySize ∷ [])
-    ∷ packing 1 (5 ∷ 6 ∷ 5 ∷ 7 ∷ []) 2 2 shows refused 10 (flatMap inFours (group 0 1 5 0 ∷ group 1 1 6 0 ∷ []) ∷ lent 2 ∷ lent summarySize ∷ [])
-    ∷ packing 1 (5 ∷ 6 ∷ 5 ∷ 7 ∷ []) 4 1 shows refused 10 (flatMap inFours (group 0 1 5 0 ∷ group 1 1 6 0 ∷ group 2 1 5 0 ∷ group 3 1 7 0 ∷ []) ∷ lent 1 ∷ lent summarySize ∷ [])
+    ∷ packing 1 (5 ∷ 6 ∷ 5 ∷ 7 ∷ []) 2 2
+    shows refused 10 (flatMap inFours (group 0 1 5 0 ∷ group 1 1 6 0 ∷ []) ∷ lent 2 ∷ lent summarySize ∷ [])
+    ∷ packing 1 (5 ∷ 6 ∷ 5 ∷ 7 ∷ []) 4 1
+    shows refused 10 (flatMap inFours (group 0 1 5 0 ∷ group 1 1 6 0 ∷ group 2 1 5 0 ∷ group 3 1 7 0 ∷ []) ∷ lent 1 ∷ lent summarySize ∷ [])
     -- the bit writer
     ∷ writing (5 ∷ 6 ∷ 5 ∷ 7 ∷ []) 0 3 3 shows spanned 2 (0xBA ∷ 0xF0 ∷ 0xFF ∷ [])
     ∷ writing (29 ∷ 15 ∷ []) 2 5 3 shows spanned 2 (0xFA ∷ 0xF0 ∷ 0xFF ∷ [])
     ∷ writing [] 2 5 3 shows spanned 0 (0xFF ∷ 0xFF ∷ 0xFF ∷ [])
     ∷ writing (31 ∷ []) 7 5 2 shows spanned 2 (0xFF ∷ 0xF0 ∷ [])
     -- "length reference + increment × code"
-    ∷ unpacking (template 0 3 3 1 0 2 2 1 1) 7 (0xA3 ∷ 0x80 ∷ 0x40 ∷ 0x6A ∷ []) shows points (number 5 ∷ number 6 ∷ number 1 ∷ number 0 ∷ number 1 ∷ number 0 ∷ number 8 ∷ [])
-    ∷ packing 1 (0 ∷ 0 ∷ 8 ∷ 8 ∷ 8 ∷ 8 ∷ 0 ∷ []) 3 3 shows packs (4 ∷ 3 ∷ 0 ∷ 0 ∷ 2 ∷ 2 ∷ 1 ∷ 1 ∷ []) (0x08 ∷ 0x00 ∷ 0x40 ∷ []) (group 0 2 0 0 ∷ group 2 4 8 0 ∷ group 6 1 0 0 ∷ [])
+    ∷ unpacking (template 0 3 3 1 0 2 2 1 1) 7 (0xA3 ∷ 0x80 ∷ 0x40 ∷ 0x6A ∷ [])
+    shows points (number 5 ∷ number 6 ∷ number 1 ∷ number 0 ∷ number 1 ∷ number 0 ∷ number 8 ∷ [])
+    ∷ packing 1 (0 ∷ 0 ∷ 8 ∷ 8 ∷ 8 ∷ 8 ∷ 0 ∷ []) 3 3
+    shows packs (4 ∷ 3 ∷ 0 ∷ 0 ∷ 2 ∷ 2 ∷ 1 ∷ 1 ∷ []) (0x08 ∷ 0x00 ∷ 0x40 ∷ []) (group 0 2 0 0 ∷ group 2 4 8 0 ∷ group 6 1 0 0 ∷ [])
     -- first values have no sign; "Missing points do not advance this."
-    ∷ restoring 2 4 (template 0 31 1 0 0 0 0 4 0) 4 (0x80 ∷ 0 ∷ 0 ∷ 0 ∷ 0 ∷ 0 ∷ 0 ∷ 1 ∷ 0x80 ∷ 0 ∷ 0 ∷ 0 ∷ 0 ∷ 0 ∷ 0 ∷ 0 ∷ []) shows points (number 2147483648 ∷ number 1 ∷ Normal (negsuc 2147483645) ∷ Normal (negsuc 4294967292) ∷ [])
-    ∷ restoring 1 1 (template 1 0 1 3 0 0 0 5 0) 5 (0x0A ∷ 0x82 ∷ 0xE3 ∷ 0xBA ∷ []) shows points (Missing1 ∷ number 10 ∷ Missing1 ∷ number 11 ∷ number 14 ∷ [])
-    ∷ restoring 2 1 (template 1 0 1 2 0 0 0 5 0) 5 (0x0A ∷ 0x0C ∷ 0x81 ∷ 0x33 ∷ 0x40 ∷ []) shows points (number 10 ∷ Missing1 ∷ number 12 ∷ Missing1 ∷ number 14 ∷ [])
+    ∷ restoring 2 4 (template 0 31 1 0 0 0 0 4 0) 4 (0x80 ∷ 0 ∷ 0 ∷ 0 ∷ 0 ∷ 0 ∷ 0 ∷ 1 ∷ 0x80 ∷ 0 ∷ 0 ∷ 0 ∷ 0 ∷ 0 ∷ 0 ∷ 0 ∷ [])
+    shows points (number 2147483648 ∷ number 1 ∷ Normal (negsuc 2147483645) ∷ Normal (negsuc 4294967292) ∷ [])
+    ∷ restoring 1 1 (template 1 0 1 3 0 0 0 5 0) 5 (0x0A ∷ 0x82 ∷ 0xE3 ∷ 0xBA ∷ [])
+    shows points (Missing1 ∷ number 10 ∷ Missing1 ∷ number 11 ∷ number 14 ∷ [])
+    ∷ restoring 2 1 (template 1 0 1 2 0 0 0 5 0) 5 (0x0A ∷ 0x0C ∷ 0x81 ∷ 0x33 ∷ 0x40 ∷ [])
+    shows points (number 10 ∷ Missing1 ∷ number 12 ∷ Missing1 ∷ number 14 ∷ [])
     -- 12: "beyond 2^60 either way", and what it leaves
-    ∷ unpacks (left53 2 (number (2 ^ 60) ∷ Normal (negℤ (pos (2 ^ 60))) ∷ []) (lent 19)) shows answered (2 ∷ []) ((flatMap pointOctets (number (2 ^ 60) ∷ Normal (negℤ (pos (2 ^ 60))) ∷ []) ++ lent 1) ∷ [])
-    ∷ unpacks (left53 2 (Missing1 ∷ number (2 ^ 60 + 1) ∷ []) (lent 19)) shows refused 12 ((flatMap pointOctets (number 0 ∷ number 0 ∷ []) ++ lent 1) ∷ [])
-    ∷ unpacks (left53 2 (Normal (negℤ (pos (2 ^ 60 + 1))) ∷ Missing2 ∷ []) (lent 19)) shows refused 12 ((flatMap pointOctets (number 0 ∷ number 0 ∷ []) ++ lent 1) ∷ [])
+    ∷ unpacks (left53 2 (number (2 ^ 60) ∷ Normal (negℤ (pos (2 ^ 60))) ∷ []) (lent 19))
+    shows answered (2 ∷ []) ((flatMap pointOctets (number (2 ^ 60) ∷ Normal (negℤ (pos (2 ^ 60))) ∷ []) ++ lent 1) ∷ [])
+    ∷ unpacks (left53 2 (Missing1 ∷ number (2 ^ 60 + 1) ∷ []) (lent 19))
+    shows refused 12 ((flatMap pointOctets (number 0 ∷ number 0 ∷ []) ++ lent 1) ∷ [])
+    ∷ unpacks (left53 2 (Normal (negℤ (pos (2 ^ 60 + 1))) ∷ Missing2 ∷ []) (lent 19))
+    shows refused 12 ((flatMap pointOctets (number 0 ∷ number 0 ∷ []) ++ lent 1) ∷ [])
     -- where the parts are
     ∷ locates (locate52 (template 0 3 2 0 1 3 0 1 0) (0xBC ∷ 0x80 ∷ 0x40 ∷ [])) shows answered (0 ∷ 1 ∷ 2 ∷ 2 ∷ 3 ∷ 4 ∷ []) []
     ∷ locates (locate52 (template 0 3 2 0 1 3 0 1 0) (0xBC ∷ 0x80 ∷ [])) shows refused 7 []
-    ∷ locates (locate53 (template 0 0 1 3 0 0 0 4 0) (record { order = 1; octets = 1 }) (0x0A ∷ 0x82 ∷ 0x0C ∷ 0x50 ∷ [])) shows answered (2 ∷ 2 ∷ 2 ∷ 2 ∷ 4 ∷ 4 ∷ []) []
+    ∷ locates (locate53 (template 0 0 1 3 0 0 0 4 0) (record { order = 1; octets = 1 }) (0x0A ∷ 0x82 ∷ 0x0C ∷ 0x50 ∷ []))
+    shows answered (2 ∷ 2 ∷ 2 ∷ 2 ∷ 4 ∷ 4 ∷ []) []
     -- run-length: no repeat codes; a base of one; "fewer than b bits at the end are ignored"
     ∷ unrolling 4 15 2 (0x3F ∷ []) shows levels (3 ∷ 15 ∷ [])
     ∷ unrolling 4 14 2 (0x3F ∷ 0xE0 ∷ []) shows refused 9 (lent 4 ∷ [])

@@ -54,14 +54,15 @@ pub fn times(x: usize, y: usize) -> usize
 
 // The octets that a field of all groups spans.
 fn span(groups: u32, width: u8) -> usize
+    requires { ⌜ width ≤ 32 ⌝ }
     ensures { λ r. ⌜ (r ≡ spanOf 0 width groups) × (r < 2 ^ 40) ⌝ }
 {
-    (times(size(groups), small(width)) + 7) / 8
+    places::span(BitPlace(0), small(width), size(groups)).0
 }
 
 // "each starting on an octet": the references at octet `start`.
 pub fn fields_of(template: Template, start: usize) -> Fields
-    requires { ⌜ start ≤ 12 ⌝ }
+    requires { ⌜ Passing template × (start ≤ 12) ⌝ }
     ensures { λ r. ⌜ Placed start template r ⌝ }
 {
     let widths = start + span(template.groups, template.width);
