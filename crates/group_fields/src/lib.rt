@@ -82,7 +82,8 @@ fn code(payload: &[u8], field: OctetPlace, g: usize, width: u8) -> usize
     ensures { λ r. ⌜ (r ≡ numberAt (now (payload .entry)) (field .0 * 8 + g * width) width) × (r < 2 ^ 32) ⌝ }
 {
     let bits = small(width);
-    size(stream::read_number(payload, BitPlace(field.0 * 8 + times(g, bits)), bits))
+    let place = BitPlace(places::first_bit(field).0 + times(g, bits));
+    size(stream::read_number(payload, place, bits))
 }
 
 pub fn reference_of(template: Template, payload: &[u8], fields: Fields, g: usize) -> usize
@@ -132,7 +133,7 @@ fn ended(fields: Fields, bits: usize) -> Places
     let widths = fields.widths;
     let lengths = fields.lengths;
     let values = fields.values;
-    let end = OctetPlace(values.0 + (bits + 7) / 8);
+    let end = OctetPlace(values.0 + places::octets_to(BitPlace(bits)).0);
     Places {
         references,
         widths,

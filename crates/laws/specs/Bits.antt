@@ -85,10 +85,6 @@ number-window x v s (suc w) h =
     let e₂ : e + 1 ≡ v - (s + w) = omega arith in
     cc (number-window x v s w (omega arith), mod-pow-add (x / 2 ^ e) w 1, shr-shr x e 1, add-one w)
 
--- all of its bits
-pub number-whole : (x w : ℕ) → x < 2 ^ w → numberOf (λ i. x / 2 ^ (w - suc i) % 2) 0 w ≡ x
-number-whole x w h = number-window x w 0 w (omega arith) ∙ simp (zero-add, sub-self, pow-zero, div-one) (mod-eq-of-lt h)
-
 -- past where all bits are zero there is zero
 pub number-zero : (f : ℕ → ℕ) (p w : ℕ) → ((i : ℕ) → i < w → f (p + i) ≡ 0) → numberOf f p w ≡ 0
 unfolding numberOf

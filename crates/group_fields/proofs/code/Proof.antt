@@ -7,8 +7,8 @@ use Rattle.group_fields.proofs.code.Tie as tie
 small-requires : tie.Need-small-requires
 small-requires c κs = search needs
 
-mul-t7 : tie.Need-mul-t7
-mul-t7 c = search needs
+first-bit-requires : tie.Need-first-bit-requires
+first-bit-requires c κs = search needs
 
 times-requires : tie.Need-times-requires
 times-requires c κs = search needs
@@ -30,7 +30,7 @@ code-spec =
     tie.close
     (tie.spec
     small-requires
-    mul-t7
+    first-bit-requires
     times-requires
     add-t9
     read-number-requires
