@@ -4,12 +4,13 @@ use mathlib.Core.Path.{_≡_}
 use mathlib.Core.List.{List, [], _∷_, _++_, map, flatMap}
 use lib.ListN.{length, replicate}
 use lib.IntN.{pos}
-use Rattle.format.specs.Refusals.{Left, fetchedNumber, storedNumber, locatedNumber, unpackedNumber, unrolledNumber, packedNumber}
+use Rattle.format.specs.Refusals.{Left, fetchedNumber, storedNumber, locatedNumber, unpackedNumber, unrolledNumber, groupedNumber, packedNumber}
 use Rattle.format.specs.Bits.{readField, writeField}
 use Rattle.format.specs.Layout.{pointSize, pointOctets, levelSize, levelOctets, groupSize, inFours}
 use Rattle.format.specs.Unpacking.{unpack52}
 use Rattle.format.specs.Differences.{unpack53}
 use Rattle.format.specs.RunLength.{runLength}
+use Rattle.format.specs.Grouping.{groupNumbersOf}
 use Rattle.format.specs.Packing.{summarySize, pack}
 use Rattle.format.specs.declared.Template.{Template}
 use Rattle.format.specs.declared.DecodedValue.{DecodedValue}
@@ -22,6 +23,8 @@ use Rattle.format.specs.declared.Unpacked.{Unpacked}
 use Rattle.format.specs.declared.Unpacked.the-variants as unpacked
 use Rattle.format.specs.declared.Unrolled.{Unrolled}
 use Rattle.format.specs.declared.Unrolled.the-variants as unrolled
+use Rattle.format.specs.declared.Grouped.{Grouped}
+use Rattle.format.specs.declared.Grouped.the-variants as grouped
 use Rattle.format.specs.declared.Packed.{Packed}
 use Rattle.format.specs.declared.Packed.the-variants as packed
 
@@ -153,6 +156,16 @@ unrollingIn b M declared payload room =
 
 abbrev pub unrolling : ℕ → ℕ → ℕ → List ℕ → Seen
 unrolling b M declared payload = unrollingIn b M declared payload (declared * levelSize)
+
+abbrev groupCount : Grouped → List ℕ
+groupCount (grouped.Groups count) = count ∷ []
+groupCount (grouped.Refused r) = []
+
+-- in so many lent numbers
+abbrev pub grouping : ℕ → List ℕ → ℕ → Seen
+grouping k xs room =
+    let r = groupNumbersOf k xs (lent room) in
+    record { number = groupedNumber (r .answer); answers = groupCount (r .answer); left = r .buffer ∷ [] }
 
 abbrev packedAnswers : Packed → List ℕ
 packedAnswers (packed.Payload t octets) =

@@ -3,17 +3,18 @@ use mathlib.Core.Path.{refl}
 use mathlib.Core.List.{List, [], _∷_, _++_, flatMap}
 use Prim.Native.Nat.{_+_, _^_}
 use lib.IntN.{pos, negsuc, negℤ}
-use Rattle.format.specs.Seen.{Case, _shows_, AllHold, lent, refused, answered, spanned, number, points, levels, group, packs, readingIn, writing, templateBy, template, unpacks, unpackingIn, unpacking, restoringIn, restoring, locates, unrollingIn, unrolling, packing}
+use Rattle.format.specs.Seen.{Case, _shows_, AllHold, lent, refused, answered, spanned, number, points, levels, group, packs, readingIn, writing, templateBy, template, unpacks, unpackingIn, unpacking, restoringIn, restoring, locates, unrollingIn, unrolling, grouping, packing}
 use Rattle.format.specs.Lists.{listed, total, joined, anyOf, greatest, least}
 use Rattle.format.specs.Refusals.{first}
 use Rattle.format.specs.Bits.{bitIn, numberOf, spanOf, readField, writeField}
 use Rattle.format.specs.Template.{widthsAt, lengthsAt, valuesAt}
-use Rattle.format.specs.Unpacking.{codesOf, referenceOf, saidBy, groupWidth, groupLength, pointsBefore, bitsBefore, wrongGroup, decoded, pointOf, pointAt, pointsUpTo, placesOf, locate52, unpack52}
+use Rattle.format.specs.Unpacking.{codesOf, referenceOf, saidBy, groupWidth, groupLength, pointsBefore, bitsBefore, wrongGroup, decoded, pointOf, pointAt, pointsUpTo, placesOf, partOf, locate52, unpack52}
 use Rattle.format.specs.Differences.{descriptorsOf, raised, expected, restored, beyond, points53, locate53, left53, unpack53}
 use Rattle.format.specs.RunLength.{codesLeft, levelsOf, repeatsFirst, levelsIn, runLength}
-use Rattle.format.specs.Grouping.{digitsIn, bits, widthOf, endsBefore, groupsFrom, groupsOf, recordsFrom}
+use Rattle.format.specs.Grouping.{digitsIn, bits, widthOf, endsBefore, groupsFrom, groupsOf, recordsFrom, groupNumbersOf}
 use Rattle.format.specs.Packing.{summarySize, widthCoding, gcdIn, gcd, gcdFrom, divisorUpTo, incrementOf, butLast, lengthCoding, templateOf, lengthCodes, valueString, payloadOf, packingOf, pack}
-use Rattle.format.specs.Layout.{pointOctets, inFours}
+use Rattle.format.specs.Layout.{pointOctets, numbersIn, inFours}
+use Rattle.format.specs.declared.Part.the-variants.{References, Lengths, Values}
 use Rattle.format.specs.declared.DecodedValue.the-variants.{Normal, Missing1, Missing2}
 
 abbrev pub sentences : List Case
@@ -101,6 +102,17 @@ sentences =
     ∷ locates (locate52 (template 0 3 2 0 1 3 0 1 0) (0xBC ∷ 0x80 ∷ [])) shows refused 7 []
     ∷ locates (locate53 (template 0 0 1 3 0 0 0 4 0) (record { order = 1; octets = 1 }) (0x0A ∷ 0x82 ∷ 0x0C ∷ 0x50 ∷ []))
     shows answered (2 ∷ 2 ∷ 2 ∷ 2 ∷ 4 ∷ 4 ∷ []) []
+    ∷ answered (partOf References (0xBC ∷ 0x80 ∷ 0x40 ∷ []) (locate52 (template 0 3 2 0 1 3 0 1 0) (0xBC ∷ 0x80 ∷ 0x40 ∷ []))) []
+    shows answered (0xBC ∷ []) []
+    ∷ answered (partOf Lengths (0xBC ∷ 0x80 ∷ 0x40 ∷ []) (locate52 (template 0 3 2 0 1 3 0 1 0) (0xBC ∷ 0x80 ∷ 0x40 ∷ []))) []
+    shows answered [] []
+    ∷ answered (partOf Values (0xBC ∷ 0x80 ∷ 0x40 ∷ 0xFF ∷ []) (locate52 (template 0 3 2 0 1 3 0 1 0) (0xBC ∷ 0x80 ∷ 0x40 ∷ 0xFF ∷ []))) []
+    shows answered (0x40 ∷ []) []
+    -- groups by themselves, in lent numbers; "spare octets short of a whole one are not used"
+    ∷ grouping 2 (0 ∷ 0 ∷ 0 ∷ 0 ∷ 8 ∷ 8 ∷ 8 ∷ []) 9 shows answered (2 ∷ []) ((group 0 4 0 0 ++ group 4 3 8 0 ++ lent 1) ∷ [])
+    ∷ grouping 2 (0 ∷ 0 ∷ 0 ∷ 0 ∷ 8 ∷ 8 ∷ 8 ∷ []) 7 shows refused 10 ((group 0 4 0 0 ++ lent 3) ∷ [])
+    ∷ grouping 65536 (0 ∷ []) 4 shows refused 13 (lent 4 ∷ [])
+    ∷ answered (numbersIn (0 ∷ 0 ∷ 1 ∷ 5 ∷ 9 ∷ 9 ∷ 9 ∷ [])) [] shows answered (261 ∷ []) []
     -- run-length: no repeat codes; a base of one; "fewer than b bits at the end are ignored"
     ∷ unrolling 4 15 2 (0x3F ∷ []) shows levels (3 ∷ 15 ∷ [])
     ∷ unrolling 4 14 2 (0x3F ∷ 0xE0 ∷ []) shows refused 9 (lent 4 ∷ [])
@@ -110,5 +122,5 @@ sentences =
     ∷ []
 
 pub all-hold : AllHold sentences
-unfolding listed referenceOf total joined anyOf greatest least flatMap first bitIn numberOf spanOf readField writeField widthsAt lengthsAt valuesAt codesOf saidBy groupWidth groupLength pointsBefore bitsBefore wrongGroup decoded pointOf pointAt pointsUpTo placesOf locate52 unpack52 descriptorsOf raised expected restored beyond points53 locate53 left53 unpack53 codesLeft levelsOf repeatsFirst levelsIn runLength digitsIn bits widthOf endsBefore groupsFrom groupsOf recordsFrom widthCoding gcdIn gcd gcdFrom divisorUpTo incrementOf butLast lengthCoding templateOf lengthCodes valueString payloadOf packingOf pack
+unfolding listed referenceOf total joined anyOf greatest least flatMap first bitIn numberOf spanOf readField writeField widthsAt lengthsAt valuesAt codesOf saidBy groupWidth groupLength pointsBefore bitsBefore wrongGroup decoded pointOf pointAt pointsUpTo placesOf locate52 unpack52 descriptorsOf raised expected restored beyond points53 locate53 left53 unpack53 codesLeft levelsOf repeatsFirst levelsIn runLength digitsIn bits widthOf endsBefore groupsFrom groupsOf recordsFrom groupNumbersOf widthCoding gcdIn gcd gcdFrom divisorUpTo incrementOf butLast lengthCoding templateOf lengthCodes valueString payloadOf packingOf pack
 all-hold = refl
