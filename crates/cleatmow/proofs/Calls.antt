@@ -2,8 +2,13 @@
 use mathlib.Core.Path.{_≡_, sym, ap, _∙_}
 use mathlib.Core.List.{List}
 use Prim.Native.Nat.{ℕ}
-use Rattle.format.specs.Refusals.{Left, left, refusalNumber, unrolledNumber}
+use Rattle.format.specs.Refusals.{Left, left, refusalNumber, unpackedNumber, unrolledNumber}
 use Rattle.format.specs.declared.Refusal.{Refusal}
+use Rattle.format.specs.Unpacking.{unpack52}
+use Rattle.format.specs.Differences.{unpack53}
+use Rattle.format.specs.declared.Template.{Template}
+use Rattle.format.specs.declared.Differencing.{Differencing}
+use Rattle.format.specs.declared.Unpacked.{Unpacked}
 use Rattle.format.specs.declared.Unrolled.{Unrolled}
 use Rattle.format.specs.declared.Unrolled.the-variants as unrolled
 use Rattle.cleatmow.specs.Calls.{called}
@@ -18,3 +23,10 @@ module _ (outcome : Left Unrolled) {answer : Unrolled} {buffer : List ℕ} (e : 
 
   pub unrolled-refused : {r : Refusal} {n : ℕ} → answer ≡ unrolled.Refused r → n ≡ refusalNumber r → left n buffer ≡ called unrolledNumber outcome
   unrolled-refused d en = called-is unrolledNumber outcome e (en ∙ ap unrolledNumber (sym d))
+
+module _ (declared : ℕ) (payload lent : List ℕ) (asked : Template) {t : Template} (et : t ≡ asked) {answer : Unpacked} {buffer : List ℕ} {n : ℕ} (en : n ≡ unpackedNumber answer) where
+  pub complex-called : left answer buffer ≡ unpack52 t declared payload lent → left n buffer ≡ called unpackedNumber (unpack52 asked declared payload lent)
+  complex-called e = called-is unpackedNumber (unpack52 asked declared payload lent) (rw et at e) en
+
+  pub spatial-called : (d : Differencing) → left answer buffer ≡ unpack53 t d declared payload lent → left n buffer ≡ called unpackedNumber (unpack53 asked d declared payload lent)
+  spatial-called d e = called-is unpackedNumber (unpack53 asked d declared payload lent) (rw et at e) en

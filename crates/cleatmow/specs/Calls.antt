@@ -1,7 +1,23 @@
 -- What a C call comes to. Assumes nothing.
+use Rattle.format.specs.declared.Template.{Template}
+use Rattle.format.specs.declared.Differencing.{Differencing}
 use Prim.Native.Nat.{ℕ}
 use Rattle.format.specs.Refusals.{Left, left}
 
 -- "The call returns the refusal's number, or 0.": its number for an answer, and the buffer as the operation left it
 abbrev pub called : {Answer : Type 0} → (Answer → ℕ) → Left Answer → Left ℕ
 called number outcome = left (number (outcome .answer)) (outcome .buffer)
+
+-- the template numbers as the calls take them, in Section 5's order
+abbrev pub templateOf : ℕ → ℕ → ℕ → ℕ → ℕ → ℕ → ℕ → ℕ → ℕ → ℕ → Template
+templateOf bits splitting missing groups widthref widthbits lenref leninc lenlast lenbits = record {
+  width = bits;
+  splitting = splitting;
+  management = missing;
+  groups = groups;
+  widths = record { reference = widthref; bits = widthbits };
+  lengths = record { reference = lenref; increment = leninc; last = lenlast; bits = lenbits };
+}
+
+abbrev pub differencingOf : ℕ → ℕ → Differencing
+differencingOf order octets = record { order = order; octets = octets }

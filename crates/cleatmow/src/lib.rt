@@ -1,10 +1,18 @@
-// The C calls: each a few lines over the crates below. include/cleatmow.h declares them.
+// The C calls: each a few lines over the crates below. include/cleatmow.h declares them; where a name has an underscore
+// there, it has none here, so that a contract can name it.
 ghost use mathlib.Core.Path.{_≡_};
-ghost use Rattle.format.specs.Refusals.{refusalNumber, unrolledNumber, Left, left};
+ghost use Rattle.format.specs.Refusals.{refusalNumber, unpackedNumber, unrolledNumber, left};
+ghost use Rattle.format.specs.Unpacking.{unpack52};
+ghost use Rattle.format.specs.Differences.{unpack53};
 ghost use Rattle.format.specs.RunLength.{runLength};
-ghost use Rattle.cleatmow.specs.Calls.{called};
+ghost use Rattle.cleatmow.specs.Calls.{called, templateOf, differencingOf};
+use format::Differencing;
+use format::Lengths;
 use format::Refusal;
+use format::Template;
+use format::Unpacked;
 use format::Unrolled;
+use format::Widths;
 
 // "A refusal carries its number and nothing else."
 fn number_of(refusal: Refusal) -> u32
@@ -25,6 +33,122 @@ fn number_of(refusal: Refusal) -> u32
         Refusal::Beyond => 12,
         Refusal::Numbers => 13,
     }
+}
+
+// The numbers of a template, in Section 5's order.
+fn template_of(
+    bits: u8,
+    splitting: u8,
+    missing: u8,
+    groups: u32,
+    widthref: u8,
+    widthbits: u8,
+    lenref: u32,
+    leninc: u8,
+    lenlast: u32,
+    lenbits: u8,
+) -> Template
+    ensures { λ r. ⌜ r ≡ templateOf bits splitting missing groups widthref widthbits lenref leninc lenlast lenbits ⌝ }
+{
+    let widths = Widths {
+        reference: widthref,
+        bits: widthbits,
+    };
+    let lengths = Lengths {
+        reference: lenref,
+        increment: leninc,
+        last: lenlast,
+        bits: lenbits,
+    };
+    Template {
+        width: bits,
+        splitting,
+        management: missing,
+        groups,
+        widths,
+        lengths,
+    }
+}
+
+// "The call returns the refusal's number, or 0."
+fn unpacked_number(unpacked: Unpacked) -> u32
+    ensures { λ r. ⌜ r ≡ unpackedNumber unpacked ⌝ }
+{
+    match unpacked {
+        Unpacked::Points(_) => 0,
+        Unpacked::Refused(refusal) => number_of(refusal),
+    }
+}
+
+// Template 5.2: the points of a payload, nine octets each.
+#[no_mangle]
+pub extern "C" fn cleatmow_unpack_complex(
+    declared: u32,
+    bits: u8,
+    splitting: u8,
+    missing: u8,
+    groups: u32,
+    widthref: u8,
+    widthbits: u8,
+    lenref: u32,
+    leninc: u8,
+    lenlast: u32,
+    lenbits: u8,
+    payload: &[u8],
+    points: &mut [u8],
+) -> u32
+    ensures { λ r. ⌜ left r (now (points .exit)) ≡ called unpackedNumber (unpack52 (templateOf bits splitting missing groups widthref widthbits lenref leninc lenlast lenbits) declared (now (payload .entry)) (now (points .entry))) ⌝ }
+{
+    let template = template_of(
+        bits,
+        splitting,
+        missing,
+        groups,
+        widthref,
+        widthbits,
+        lenref,
+        leninc,
+        lenlast,
+        lenbits,
+    );
+    unpacked_number(decoder::unpack_complex(template, declared, payload, points))
+}
+
+// Template 5.3: the same numbers, then the order and the octets of a descriptor.
+#[no_mangle]
+pub extern "C" fn cleatmow_unpack_spatial(
+    declared: u32,
+    bits: u8,
+    splitting: u8,
+    missing: u8,
+    groups: u32,
+    widthref: u8,
+    widthbits: u8,
+    lenref: u32,
+    leninc: u8,
+    lenlast: u32,
+    lenbits: u8,
+    order: u8,
+    octets: u8,
+    payload: &[u8],
+    points: &mut [u8],
+) -> u32
+    ensures { λ r. ⌜ left r (now (points .exit)) ≡ called unpackedNumber (unpack53 (templateOf bits splitting missing groups widthref widthbits lenref leninc lenlast lenbits) (differencingOf order octets) declared (now (payload .entry)) (now (points .entry))) ⌝ }
+{
+    let template = template_of(
+        bits,
+        splitting,
+        missing,
+        groups,
+        widthref,
+        widthbits,
+        lenref,
+        leninc,
+        lenlast,
+        lenbits,
+    );
+    let differencing = Differencing { order, octets };
+    unpacked_number(decoder::unpack_spatial(template, differencing, declared, payload, points))
 }
 
 // Template 7.200: the levels of a payload, two octets each.

@@ -75,9 +75,9 @@ module _ {t : Template} {f : Fields} (h : Walkable t f) {payload : List ℕ} {n 
     walking-wide e m = wrong (too-wide t codes g (omega arith))
 
     -- the last length is none that is too long
-    pub walking-long : {length : ℕ} → (length ≡ groupLength t codes g) × (length < 2 ^ 41) → 4294967295 < length → located.Refused GroupSize ≡ locatedBy refused (f .references .0) t payload
-    walking-long e m =
-        let last : (g + 1 ≡ t .groups → ⊥) = λ z. omega (arith, h .passing .last, length-last t (f .references .0) payload g {last = t .lengths .last} (omega arith)) in
+    pub walking-long : t .lengths .last ≤ 4294967295 → {length : ℕ} → (length ≡ groupLength t codes g) × (length < 2 ^ 41) → 4294967295 < length → located.Refused GroupSize ≡ locatedBy refused (f .references .0) t payload
+    walking-long u32 e m =
+        let last : (g + 1 ≡ t .groups → ⊥) = λ z. omega (arith, u32, length-last t (f .references .0) payload g {last = t .lengths .last} (omega arith)) in
         wrong (too-long t codes g (omega arith) (omega arith))
 
     pub walking-more : {width length area : ℕ} → (width ≡ groupWidth t codes g) × (width < 2 ^ 33) → width ≤ 31 → (length ≡ groupLength t codes g) × (length < 2 ^ 41) → length ≤ 4294967295

@@ -25,13 +25,12 @@ pub record Placed (start : ℕ) (t : Template) (f : Fields) : Type 0 where
   pub lengths-low : f .lengths .0 < 2 ^ 42
   pub values-low : f .values .0 < 2 ^ 42
 
--- a template that passed 6 and 5; the last length is a u32
+-- a template that passed 6 and 5
 pub record Passing (t : Template) : Type 0 where
   pub few : t .groups ≤ 4194304
   pub width : t .width ≤ 31
   pub widths : t .widths .bits ≤ 32
   pub lengths : t .lengths .bits ≤ 32
-  pub last : t .lengths .last ≤ 4294967295
 
 -- and its fields
 pub record Walkable (t : Template) (f : Fields) : Type 0 where

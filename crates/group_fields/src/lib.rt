@@ -145,7 +145,7 @@ fn ended(fields: Fields, bits: usize) -> Places
 
 // "8, 7 for the values": no group may be too wide or too long, and the payload ends with or after the last value's octet.
 fn walked(template: Template, payload: &[u8], fields: Fields) -> Located
-    requires { ⌜ Walkable template fields ⌝ }
+    requires { ⌜ Walkable template fields × (template .lengths .last ≤ 4294967295) ⌝ }
     ensures { λ r. ⌜ r ≡ locatedBy (groupRefusals (fields .references .0) template (now (payload .entry))) (fields .references .0) template (now (payload .entry)) ⌝ }
 {
     let groups = size(template.groups);
@@ -174,7 +174,7 @@ fn walked(template: Template, payload: &[u8], fields: Fields) -> Located
 
 // "7 for the group fields", then the groups.
 fn fields_located(template: Template, start: usize, payload: &[u8]) -> Located
-    requires { ⌜ Passing template × (start ≤ 12) ⌝ }
+    requires { ⌜ Passing template × (start ≤ 12) × (template .lengths .last ≤ 4294967295) ⌝ }
     ensures { λ r. ⌜ r ≡ locatedBy (fieldsShort start template (now (payload .entry)) ++ groupRefusals start template (now (payload .entry))) start template (now (payload .entry)) ⌝ }
 {
     let fields = fields_of(template, start);

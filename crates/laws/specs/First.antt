@@ -129,3 +129,11 @@ module _ {A : Type 0} (refused : Refusal → A) where
   passed [] a e h = (tt, e)
   passed (true gives r ∷ rows) a e h = absurd (h r e)
   passed (false gives r ∷ rows) a e h = let p = passed rows a e h in ((refl, p .0), p .1)
+
+-- what is made of an answer, refusals being made refusals, may as well be made of what is answered where none refuses
+pub first-through : {A B : Type 0} (refused : Refusal → A) (refused′ : Refusal → B) (f : A → B) → ((r : Refusal) → f (refused r) ≡ refused′ r)
+    → (rows : List Row) (a : A) → f (first refused rows a) ≡ first refused′ rows (f a)
+unfolding first
+first-through refused refused′ f h [] a = refl
+first-through refused refused′ f h (true gives r ∷ rows) a = h r
+first-through refused refused′ f h (false gives r ∷ rows) a = first-through refused refused′ f h rows a

@@ -8,3 +8,4 @@ pub mod Spans
 pub mod Written
 pub mod Fields
 pub mod Stores
+pub mod Signed

@@ -3,7 +3,7 @@ use mathlib.Core.Path.{_≡_, refl, sym, ap, ap₂, _∙_}
 use mathlib.Core.Bool.{Bool, true, false, _||_, or-true, false≢true}
 use mathlib.Core.List.{List, [], _∷_, _++_}
 use Prim.Native.Nat.{ℕ, zero, suc, _+_, _-_, _≤_, _<_}
-use native.Mathlib.Nat.{not-suc-le-zero, add-zero, zero-add, suc-add, sub-zero, zero-sub}
+use native.Mathlib.Nat.{not-suc-le-zero, add-zero, add-suc, zero-add, suc-add, sub-zero, zero-sub}
 use native.Mathlib.Numerals.{add-one}
 use native.Mathlib.Omega.{arith}
 use lib.ListN.{length, take, drop, set, getD, length-append, length-drop, drop-of-length-le}
@@ -75,6 +75,10 @@ take-of-drop (suc a) (suc e) (x ∷ l) = let d : suc e - suc a ≡ e - a = omega
 
 -- ---- whether f holds of one
 
+pub either-left : (a b : Bool) → (a || b) ≡ false → a ≡ false
+either-left true b e = e
+either-left false b e = refl
+
 module _ {A : Type 0} (f : A → Bool) where
   pub any-here : (xs : List A) (d : A) (k : ℕ) → k < length xs → f (getD xs k d) ≡ true → anyOf f xs ≡ true
   unfolding anyOf
@@ -86,10 +90,6 @@ module _ {A : Type 0} (f : A → Bool) where
   unfolding anyOf
   any-none [] d h k l = absurd (not-suc-le-zero l)
   any-none (x ∷ xs) d h zero l = either-left (f x) (anyOf f xs) h
-    where
-      either-left : (a b : Bool) → (a || b) ≡ false → a ≡ false
-      either-left true b e = e
-      either-left false b e = refl
   any-none (x ∷ xs) d h (suc k) l = any-none xs d (either-right (f x) (anyOf f xs) h) k (omega arith)
     where
       either-right : (a b : Bool) → (a || b) ≡ false → b ≡ false
@@ -110,6 +110,18 @@ module _ {A : Type 0} (f : A → Bool) where
 pub total-next : (n : ℕ) (f : ℕ → ℕ) → total (n + 1) f ≡ total n f + f n
 unfolding total
 total-next n f = rw (add-one n)
+
+-- a total depends on f at the places below n alone
+pub total-ext : (n : ℕ) (f g : ℕ → ℕ) → ((i : ℕ) → i < n → f i ≡ g i) → total n f ≡ total n g
+unfolding total
+total-ext zero f g h = refl
+total-ext (suc n) f g h = ap₂ (λ (x y : ℕ). x + y) (total-ext n f g (λ i l. h i (omega arith))) (h n (omega arith))
+
+-- and grows with n
+pub total-upto : (n m : ℕ) (f : ℕ → ℕ) → total n f ≤ total (n + m) f
+unfolding total
+total-upto n zero f = rw (add-zero n) (omega arith)
+total-upto n (suc m) f = rw (add-suc n m) (omega (arith, total-upto n m f))
 
 module _ {A : Type 0} where
   pub joined-next : (n : ℕ) (f : ℕ → List A) → joined (n + 1) f ≡ joined n f ++ f n

@@ -1,0 +1,3 @@
+pub mod Decoding
+pub mod Storing
+pub mod Filling

@@ -1,0 +1,74 @@
+-- `complex::store_values` meets its contract. Assumes nothing.
+use Prim.Native.Nat.{_-_, _^_, _<_}
+use native.Mathlib.Omega.{arith}
+use Rattle.format.specs.Unpacking.{pointOf}
+use Rattle.complex.specs.Runs.{valueAt}
+use Rattle.complex.proofs.Storing.{Reading, reading-start, reading-end, value-low, values-more}
+use Rattle.complex.proofs.store_values.Statement.{statement}
+use Rattle.complex.proofs.store_values.Tie as tie
+
+abbrev Inv-loop : tie.InvT-loop
+Inv-loop template payload run points₀ from bit₀ k₀ points bit k = Reading run bit₀ (λ i. pointOf template (run .width) (run .reference) (valueAt run payload bit₀ i)) points₀ from points bit k
+
+abbrev μ-loop : tie.MeasureT-loop
+μ-loop template payload run points₀ from bit₀ k₀ points bit k = run .length - k
+
+loop-holds : tie.Need-loop-holds Inv-loop μ-loop
+loop-holds c = reading-start _ _ _ _ _
+
+read-number-requires : tie.Need-read-number-requires Inv-loop μ-loop
+read-number-requires c κs = omega arith
+
+value : (c : tie.After-struct-known2 Inv-loop μ-loop) → c .before .read-number .result < 2 ^ 31
+value c = search value-low
+
+add-decoded : tie.Need-add-decoded Inv-loop μ-loop
+add-decoded c = omega (arith, value c)
+
+decoded-requires : tie.Need-decoded-requires Inv-loop μ-loop
+decoded-requires c κs = omega arith
+
+add-store-point : tie.Need-add-store-point Inv-loop μ-loop
+add-store-point c = omega arith
+
+store-point-requires : tie.Need-store-point-requires Inv-loop μ-loop
+store-point-requires c κs = omega arith
+
+add-bit : tie.Need-add-bit Inv-loop μ-loop
+add-bit c = omega arith
+
+add-k : tie.Need-add-k Inv-loop μ-loop
+add-k c = omega arith
+
+loop-less : tie.Need-loop-less Inv-loop μ-loop
+loop-less c = omega arith
+
+loop-again : tie.Need-loop-again Inv-loop μ-loop
+loop-again c =
+    let start = c .before .before .before .before .before .before .before .before .before .before .before .before .before in
+    values-more (start .args .template) (start .args .run) _ _ (start .pre .0) (c .before .before .before .before .before .before .before .before .before .before .loop .inv) (start .pre .1) (c .before .before .before .before .before .before .before .before .if1 .taken) (c .before .before .before .before .before .before .before .read-number .ensures) (c .before .before .before .before .before .decoded .ensures) (c .before .before .before .store-point .ensures)
+
+same-length : tie.Need-same-length Inv-loop μ-loop
+same-length c = c .before .before .loop .inv .stored .long
+
+returns : tie.Need-returns Inv-loop μ-loop
+returns c = search reading-end
+
+pub store-values-spec : {M : Type 1} → statement M
+store-values-spec =
+    tie.close
+    (tie.spec
+    Inv-loop
+    μ-loop
+    loop-holds
+    read-number-requires
+    add-decoded
+    decoded-requires
+    add-store-point
+    store-point-requires
+    add-bit
+    add-k
+    loop-less
+    loop-again
+    same-length
+    returns)

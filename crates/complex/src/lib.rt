@@ -1,0 +1,168 @@
+// Points of the groups under 5.2 and 5.3, after the Rust's complex.rs: from the group fields and the values to lent octets.
+ghost use mathlib.Core.Path.{_≡_};
+ghost use mathlib.Core.List.{flatMap};
+ghost use Prim.Native.Nat.{_+_, _*_, _/_, _<_, _≤_, _^_};
+ghost use lib.IntN.{pos};
+ghost use lib.ListN.{length, replicate};
+ghost use lib.Seq.{sets};
+ghost use Rattle.format.specs.Lists.{_over_};
+ghost use Rattle.format.specs.Layout.{pointSize, pointOctets};
+ghost use Rattle.format.specs.Unpacking.{codesOf, saidBy, decoded, pointsUpTo};
+ghost use Rattle.format.specs.declared.DecodedValue.the-variants.{Normal};
+ghost use Rattle.group_fields.specs.Walk.{Walkable};
+ghost use Rattle.complex.specs.Runs.{runAt, runPoints, runNumbers, Narrow, Roomy};
+use format::BitPlace;
+use format::DecodedValue;
+use format::Template;
+use group_fields::Fields;
+
+// A group: its reference, its width and its length.
+pub struct Run {
+    pub reference: u32,
+    pub width: usize,
+    pub length: usize,
+}
+
+fn normal(number: u32) -> DecodedValue
+    ensures { λ r. ⌜ r ≡ Normal (pos number) ⌝ }
+{
+    DecodedValue::Normal(number as i64)
+}
+
+fn wide(value: u32) -> u64
+    ensures { λ r. ⌜ (r ≡ value) × (r < 2 ^ 32) ⌝ }
+{
+    value as u64
+}
+
+// "value 2^w − 1 is missing 1 if m > 0; else 2^w − 2 is missing 2 if m = 2; else the number"
+fn decoded(template: Template, width: usize, value: u32, number: u32) -> DecodedValue
+    requires { ⌜ width ≤ 31 ⌝ }
+    ensures { λ r. ⌜ r ≡ decoded template width value number ⌝ }
+{
+    let management = template.management;
+    if management == 0 {
+        return normal(number);
+    }
+    let greatest = places::power(width) - 1;
+    if wide(value) == greatest {
+        return DecodedValue::Missing1;
+    }
+    if management != 2 {
+        return normal(number);
+    }
+    if wide(value) + 1 == greatest {
+        return DecodedValue::Missing2;
+    }
+    normal(number)
+}
+
+// One point in as many places as are asked for.
+pub fn store_same(points: &mut [u8], from: usize, count: usize, point: DecodedValue)
+    requires { ⌜ (from + count) * pointSize ≤ length (now points) ⌝ }
+    ensures { λ _. ⌜ now (points .exit) ≡ sets (now (points .entry)) (from * pointSize) (flatMap pointOctets (replicate count point)) ⌝ }
+{
+    let mut k = 0usize;
+    while k < count {
+        layout::store_point(points, from + k, point);
+        k += 1;
+    }
+}
+
+// The points of a group of width above 0, whose values begin at a place.
+fn store_values(
+    template: Template,
+    payload: &[u8],
+    place: BitPlace,
+    run: Run,
+    points: &mut [u8],
+    from: usize,
+)
+    requires { ⌜ Narrow run (place .0) × (0 < run .width) × ((from + run .length) * pointSize ≤ length (now points)) ⌝ }
+    ensures { λ _. ⌜ now (points .exit) ≡ sets (now (points .entry)) (from * pointSize) (flatMap pointOctets (runPoints template run (now (payload .entry)) (place .0))) ⌝ }
+{
+    let mut bit = place.0;
+    let mut k = 0usize;
+    while k < run.length {
+        let value = stream::read_number(payload, BitPlace(bit), run.width);
+        let point = decoded(template, run.width, value, value + run.reference);
+        layout::store_point(points, from + k, point);
+        bit += run.width;
+        k += 1;
+    }
+}
+
+// The same where no value is missing and eight octets are there from each value on: nothing is tested at a point.
+fn store_numbers(payload: &[u8], place: BitPlace, run: Run, points: &mut [u8], from: usize)
+    requires { ⌜ Narrow run (place .0) × (0 < run .width) × ((place .0 + run .length * run .width) / 8 + 8 ≤ length (now payload)) × ((from + run .length) * pointSize ≤ length (now points)) ⌝ }
+    ensures { λ _. ⌜ now (points .exit) ≡ sets (now (points .entry)) (from * pointSize) (flatMap pointOctets (runNumbers run (now (payload .entry)) (place .0))) ⌝ }
+{
+    let mut bit = place.0;
+    let mut k = 0usize;
+    while k < run.length {
+        let value = stream::read_there(payload, BitPlace(bit), run.width);
+        let point = normal(value + run.reference);
+        layout::store_point(points, from + k, point);
+        bit += run.width;
+        k += 1;
+    }
+}
+
+// "In a group of width 0 the same tests apply to the reference at the number width, and the number is the reference."
+fn store_run(
+    template: Template,
+    payload: &[u8],
+    place: BitPlace,
+    run: Run,
+    points: &mut [u8],
+    from: usize,
+)
+    requires { ⌜ (template .width ≤ 31) × Narrow run (place .0) × ((from + run .length) * pointSize ≤ length (now points)) ⌝ }
+    ensures { λ _. ⌜ now (points .exit) ≡ sets (now (points .entry)) (from * pointSize) (flatMap pointOctets (runPoints template run (now (payload .entry)) (place .0))) ⌝ }
+{
+    if run.width == 0 {
+        let width = group_fields::small(template.width);
+        let point = decoded(template, width, run.reference, run.reference);
+        store_same(points, from, run.length, point);
+        return;
+    }
+    if template.management != 0 {
+        store_values(template, payload, place, run, points, from);
+        return;
+    }
+    let end = BitPlace(place.0 + group_fields::times(run.length, run.width));
+    if payload.len() < places::octet_of(end).0 + 8 {
+        store_values(template, payload, place, run, points, from);
+        return;
+    }
+    store_numbers(payload, place, run, points, from);
+}
+
+fn run_of(template: Template, payload: &[u8], fields: Fields, g: usize) -> Run
+    requires { ⌜ Walkable template fields × (g < template .groups) ⌝ }
+    ensures { λ r. ⌜ r ≡ runAt template (codesOf (fields .references .0) template (now (payload .entry))) g ⌝ }
+{
+    Run {
+        reference: group_fields::reference_of(template, payload, fields, g) as u32,
+        width: group_fields::width_of(template, payload, fields, g),
+        length: group_fields::length_of(template, payload, fields, g),
+    }
+}
+
+// The points of all groups, of which none is refused.
+pub fn store_points(template: Template, payload: &[u8], fields: Fields, points: &mut [u8])
+    requires { ⌜ Walkable template fields × Roomy (fields .references .0) template (now payload) (now points) ⌝ }
+    ensures { λ _. ⌜ now (points .exit) ≡ flatMap pointOctets (pointsUpTo template (saidBy (fields .references .0) template (now (payload .entry))) (template .groups)) over now (points .entry) ⌝ }
+{
+    let groups = group_fields::size(template.groups);
+    let mut bit = places::first_bit(fields.values).0;
+    let mut k = 0usize;
+    let mut g = 0usize;
+    while g < groups {
+        let run = run_of(template, payload, fields, g);
+        store_run(template, payload, BitPlace(bit), run, points, k);
+        bit += group_fields::times(run.length, run.width);
+        k += run.length;
+        g += 1;
+    }
+}

@@ -1,0 +1,4 @@
+pub mod Deciding
+pub mod Packed
+pub mod Restoring
+pub mod Spatial

@@ -1,0 +1,73 @@
+-- A point in the lent octets, between others. Assumes nothing.
+use mathlib.Core.Path.{_≡_, refl, sym, ap, _∙_}
+use mathlib.Core.List.{List, [], _∷_, _++_, append-assoc}
+use Prim.Native.Nat.{ℕ, suc, _+_, _-_, _*_, _/_, _%_, _^_, _<_}
+use native.Mathlib.Nat.{div-div-eq-div-mul, mod-eq-of-lt, div-add-mod', div-one}
+use native.Mathlib.Omega.{arith}
+use lib.IntN.{ℤ, pos}
+use lib.ListN.{length, getD, length-append}
+use lib.Seq.{sets, sets-eq, take-at, drop-at, drop-append-add, getD-at, getD-append-add}
+use Rattle.format.specs.Lists.{listed}
+use Rattle.format.specs.Bits.{numberAt}
+use Rattle.format.specs.Layout.{bigEndian, pointOctets, markOf, twosComplement}
+use Rattle.format.specs.declared.DecodedValue.{DecodedValue}
+use Rattle.format.specs.declared.DecodedValue.the-variants.{Normal}
+use Rattle.laws.specs.Lists.{length-listed}
+use Rattle.laws.specs.Bits.{octet, number-octet}
+use Rattle.diff.specs.Restoring.{Lying}
+
+-- ---- what is read
+
+pub mark-lies : {k : ℕ} {octets : List ℕ} {packed : DecodedValue} {front behind : List ℕ} {mark : ℕ} → Lying k octets packed front behind → mark ≡ getD octets (k * 9) 0
+    → mark ≡ markOf packed
+mark-lies {k} {octets} {packed} {front} {behind} l e = e ∙ rw (l .there) (getD-at front (markOf packed) _ 0 (k * 9) (l .long))
+
+-- a number below 2^32 and its last four octets
+four-octets : (n : ℕ) → n < 2 ^ 32 → ((n / 16777216 % 256 * 256 + n / 65536 % 256) * 256 + n / 256 % 256) * 256 + n / 1 % 256 ≡ n
+four-octets n h =
+    let two : n / 65536 ≡ n / 256 / 256 = sym (div-div-eq-div-mul n 256 256) in
+    let three : n / 16777216 ≡ n / 256 / 256 / 256 = sym (div-div-eq-div-mul n 65536 256) ∙ ap (λ (m : ℕ). m / 256) two in
+    let small : n / 16777216 < 256 = omega arith in
+    rw (mod-eq-of-lt small, three, two, div-add-mod' (n / 256 / 256) 256, div-add-mod' (n / 256) 256, div-one n) (div-add-mod' n 256)
+
+pub number-lies : {k : ℕ} {octets : List ℕ} {n m : ℕ} {front behind : List ℕ} → Lying k octets (Normal (pos n)) front behind → m ≡ numberAt octets ((k * 9 + 5) * 8) 32 → m ≡ n
+unfolding listed
+number-lies {k} {octets} {n} {m} {front} {behind} l e =
+    let first = at (k * 9 + 5) 5 refl in
+    let second = at (k * 9 + 5 + 1) 6 (omega arith) in
+    let third = at (k * 9 + 5 + 2) 7 (omega arith) in
+    let fourth = at (k * 9 + 5 + 3) 8 (omega arith) in
+    e
+    ∙ omega (
+      arith,
+      four-octets n (l .small),
+      octet octets (k * 9 + 5) (omega arith),
+      number-octet octets (k * 9 + 5) 1 (omega arith),
+      number-octet octets (k * 9 + 5) 2 (omega arith),
+      number-octet octets (k * 9 + 5) 3 (omega arith),
+    )
+  where
+    at : (p j : ℕ) → p ≡ k * 9 + j → getD octets p 0 ≡ getD (pointOctets (Normal (pos n)) ++ behind) j 0
+    at p j h = rw (h, l .there, ← l .long) (getD-append-add front (pointOctets (Normal (pos n)) ++ behind) j 0)
+
+-- ---- what is stored
+
+-- as many elements in the midst of others
+sets-mid : {A : Type 0} (before old new behind : List A) (at : ℕ) → length before ≡ at → length new ≡ length old → sets (before ++ (old ++ behind)) at new ≡ before ++ (new ++ behind)
+sets-mid before old new behind at e h =
+    let long = length-append before (old ++ behind) in
+    sets-eq new (before ++ (old ++ behind)) at (omega (arith, long, length-append old behind))
+    ∙ rw (← e, take-at before (old ++ behind) (length before) refl, drop-append-add before (old ++ behind) (length new), drop-at old behind (length new) (sym h))
+    (append-assoc before new behind)
+
+-- a point's number, behind its mark
+pub number-stored : {k : ℕ} {octets : List ℕ} {z : ℤ} (y : ℤ) {front behind octets′ : List ℕ} → Lying k octets (Normal z) front behind
+    → octets′ ≡ sets octets (k * 9 + 1) (bigEndian 8 (twosComplement y)) → octets′ ≡ front ++ (pointOctets (Normal y) ++ behind)
+number-stored {k} {octets} {z} y {front} {behind} l e =
+    let old = bigEndian 8 (twosComplement z) in
+    let new = bigEndian 8 (twosComplement y) in
+    let same : length new ≡ length old = length-listed 8 (λ i. twosComplement y / 256 ^ (8 - suc i) % 256) ∙ sym (length-listed 8 (λ i. twosComplement z / 256 ^ (8 - suc i) % 256)) in
+    e
+    ∙ ap (λ (o : List ℕ). sets o (k * 9 + 1) new) (l .there ∙ sym (append-assoc front (0 ∷ []) (old ++ behind)))
+    ∙ sets-mid (front ++ (0 ∷ [])) old new behind (k * 9 + 1) (length-append front (0 ∷ []) ∙ omega (arith, l .long)) same
+    ∙ append-assoc front (0 ∷ []) (new ++ behind)

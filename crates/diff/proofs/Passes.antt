@@ -1,0 +1,208 @@
+-- All points, one after another. Assumes nothing.
+use mathlib.Core.Path.{_≡_, refl, sym, ap, _∙_}
+use mathlib.Core.Bool.{Bool, true, false, not, _||_, true≢false}
+use mathlib.Core.List.{List, [], _∷_, _++_, append-assoc, append-nil, map, flatMap}
+use Prim.Native.Nat.{ℕ, suc, _+_, _*_, _≤_, _<_}
+use native.Mathlib.Omega.{arith}
+use lib.ListN.{length, getD, drop, length-append}
+use lib.Seq.{drop-at}
+use Rattle.format.specs.Lists.{anyOf, _over_}
+use Rattle.format.specs.Layout.{pointOctets}
+use Rattle.format.specs.Differences.{restored, beyond}
+use Rattle.format.specs.declared.Differencing.{Differencing}
+use Rattle.format.specs.declared.DecodedValue.{DecodedValue}
+use Rattle.format.specs.declared.DecodedValue.the-variants.{Missing1}
+use Rattle.laws.specs.Lists.{length-listed}
+use Rattle.laws.specs.Stores.{flat-append, length-flat}
+use Rattle.diff.specs.Restoring.{Small, Holding, Steady, from, Comes, Lying, Went, Stopped, firstRestoring, Outcome, Orderly, Described, Restored, restoredFrom}
+use Rattle.diff.specs.declared.Descriptors.{Descriptors}
+use Rattle.diff.specs.declared.Restoring.{Restoring}
+use Rattle.diff.specs.declared.Turn.the-variants as turn
+use Rattle.diff.proofs.Kept.{kept-zero}
+
+size-point : (point : DecodedValue) → length (pointOctets point) ≡ 9
+size-point point = ap suc (length-listed 8 _)
+
+flat-size : (points : List DecodedValue) → length (flatMap pointOctets points) ≡ length points * 9
+flat-size points = length-flat pointOctets 9 size-point points
+
+any-append : {A : Type 0} (f : A → Bool) (xs ys : List A) → anyOf f xs ≡ false → anyOf f (xs ++ ys) ≡ anyOf f ys
+unfolding anyOf
+any-append f [] ys h = refl
+any-append f (x ∷ xs) ys h = by-test (f x) refl (λ e. any-append f xs ys e)
+  where
+    by-test : (t : Bool) → f x ≡ t → (anyOf f xs ≡ false → anyOf f (xs ++ ys) ≡ anyOf f ys) → (f x || anyOf f (xs ++ ys)) ≡ anyOf f ys
+    by-test true e again = absurd (true≢false (rw e at h))
+    by-test false e again = rw e (again (rw e at h))
+
+-- for some packed points: those before point k are restored, and none of them is beyond
+pub record Walking (order : ℕ) (x : Descriptors) (packed : List DecodedValue) (count : ℕ) (lent : List ℕ) (r : Restoring) (k : ℕ) (octets : List ℕ) : Type 0 where
+  pub done : List DecodedValue
+  pub left : List DecodedValue
+  pub done-is : length done ≡ k
+  pub left-is : k + length left ≡ count
+  pub small : (j : ℕ) → j < length left → Small (getD left j Missing1)
+  pub all : from order x (firstRestoring order) packed ≡ done ++ from order x r left
+  pub within : anyOf beyond done ≡ false
+  pub there : octets ≡ flatMap pointOctets done ++ (flatMap pointOctets left ++ drop (count * 9) lent)
+
+-- and for whatever packed points the lent octets hold
+pub record Passing (order : ℕ) (x : Descriptors) (count : ℕ) (lent : List ℕ) (r : Restoring) (k : ℕ) (octets : List ℕ) : Type 0 where
+  pub some : k ≤ count
+  pub long : length octets ≡ length lent
+  pub steady : Steady order r
+  pub exact : (packed : List DecodedValue) → Holding packed count lent → Walking order x packed count lent r k octets
+
+pub passing-start : (order : ℕ) (x : Descriptors) (count : ℕ) (lent : List ℕ) → Passing order x count lent (firstRestoring order) 0 lent
+unfolding flatMap anyOf
+passing-start order x count lent = record {
+  some = omega arith;
+  long = refl;
+  steady = record {
+    few = omega arith;
+    previous = record { low = omega arith; high = omega arith };
+    before = record { low = omega arith; high = omega arith };
+  };
+  exact = λ packed h. record {
+    done = [];
+    left = packed;
+    done-is = refl;
+    left-is = omega (arith, h .long);
+    small = λ j l. h .small j (omega (arith, h .long));
+    all = refl;
+    within = refl;
+    there = h .there ∙ ap (λ (n : ℕ). flatMap pointOctets packed ++ drop n lent) (flat-size packed ∙ ap (λ (n : ℕ). n * 9) (h .long));
+  };
+}
+
+module _ {order : ℕ} {x : Descriptors} {packed : List DecodedValue} {count : ℕ} {lent : List ℕ} {r : Restoring} {k : ℕ} {octets : List ℕ}
+    (w : Walking order x packed count lent r k octets) where
+  abbrev front : List ℕ
+  front = flatMap pointOctets (w .done)
+
+  abbrev behind : List DecodedValue → List ℕ
+  behind more = flatMap pointOctets more ++ drop (count * 9) lent
+
+  -- the packed point that stands at k
+  module _ {point : DecodedValue} {more : List DecodedValue} (e : w .left ≡ point ∷ more) where
+    lies : Lying k octets point front (behind more)
+    unfolding flatMap
+    lies = record {
+      small = rw e at (w .small) 0 (omega arith);
+      long = flat-size (w .done) ∙ ap (λ (n : ℕ). n * 9) (w .done-is);
+      there = rw e at (w .there) ∙ ap (λ (l : List ℕ). front ++ l) (append-assoc (pointOctets point) (flatMap pointOctets more) (drop (count * 9) lent));
+    }
+
+    -- and the one that comes of it
+    comes : (new : DecodedValue) (next : Restoring) → Comes order x r point new next
+        → from order x (firstRestoring order) packed ≡ w .done ++ (new ∷ from order x next more)
+    comes new next c = w .all ∙ ap (λ (l : List DecodedValue). w .done ++ l) (ap (from order x r) e ∙ c more)
+
+  walking-more : {octets′ : List ℕ} {next : Restoring} → Went order x r k octets octets′ next → k < count → Walking order x packed count lent next (k + 1) octets′
+  unfolding anyOf flatMap
+  walking-more {octets′} {next} m l = by-left (w .left) refl
+    where
+      by-left : (left : List DecodedValue) → w .left ≡ left → Walking order x packed count lent next (k + 1) octets′
+      by-left [] e = absurd (omega (arith, w .left-is, ap length e))
+      by-left (point ∷ more) e =
+          let t = m .exact point front (behind more) (lies e) in
+          let last : List DecodedValue = t .point ∷ [] in
+          record {
+            done = w .done ++ last;
+            left = more;
+            done-is = length-append (w .done) last ∙ omega (arith, w .done-is);
+            left-is = omega (arith, w .left-is, ap length e);
+            small = λ j i. rw e at (w .small) (suc j) (omega arith);
+            all = comes e (t .point) next (t .comes) ∙ sym (append-assoc (w .done) last (from order x next more));
+            within = any-append beyond (w .done) last (w .within) ∙ rw (t .within);
+            there =
+                t .there ∙ sym (append-assoc front (pointOctets (t .point)) (behind more))
+                ∙ ap (λ (o : List ℕ). o ++ behind more)
+                (ap (λ (o : List ℕ). front ++ o) (sym (append-nil (pointOctets (t .point)))) ∙ sym (flat-append pointOctets (w .done) last));
+          }
+
+  -- places past the points are unchanged
+  past : drop (count * 9) octets ≡ drop (count * 9) lent
+  past =
+      let left = flatMap pointOctets (w .left) in
+      let size : length (front ++ left) ≡ count * 9 = length-append front left ∙ omega (arith, flat-size (w .done), flat-size (w .left), w .done-is, w .left-is) in
+      rw (w .there, ← append-assoc front left (drop (count * 9) lent)) (drop-at (front ++ left) (drop (count * 9) lent) (count * 9) size)
+
+  -- one is beyond
+  walking-beyond : {octets′ : List ℕ} → Stopped order x r k octets octets′ → k < count → anyOf beyond (from order x (firstRestoring order) packed) ≡ true
+  unfolding anyOf
+  walking-beyond m l = by-left (w .left) refl
+    where
+      by-left : (left : List DecodedValue) → w .left ≡ left → anyOf beyond (from order x (firstRestoring order) packed) ≡ true
+      by-left [] e = absurd (omega (arith, w .left-is, ap length e))
+      by-left (point ∷ more) e =
+          let t = m .exact point front (behind more) (lies e) in
+          ap (anyOf beyond) (comes e (t .point) (t .next) (t .comes)) ∙ any-append beyond (w .done) (t .point ∷ from order x (t .next) more) (w .within) ∙ rw (t .past)
+
+  -- none is
+  walking-end : count ≤ k → (from order x (firstRestoring order) packed ≡ w .done) × (octets ≡ flatMap pointOctets (w .done) over lent)
+  unfolding flatMap restored map
+  walking-end l = by-left (w .left) refl
+    where
+      by-left : (left : List DecodedValue) → w .left ≡ left → (from order x (firstRestoring order) packed ≡ w .done) × (octets ≡ flatMap pointOctets (w .done) over lent)
+      by-left (point ∷ more) e = absurd (omega (arith, w .left-is, ap length e))
+      by-left [] e =
+          let size : count * 9 ≡ length front = omega (arith, flat-size (w .done), w .done-is, w .left-is) in
+          (w .all ∙ ap (λ (l : List DecodedValue). w .done ++ from order x r l) e ∙ append-nil (w .done), rw e at (w .there) ∙ ap (λ (n : ℕ). front ++ drop n lent) size)
+
+-- ---- for whatever packed points the lent octets hold
+
+module _ {order : ℕ} {x : Descriptors} {count : ℕ} {lent : List ℕ} {r : Restoring} {k : ℕ} {octets : List ℕ} (p : Passing order x count lent r k octets) where
+  pub passing-more : {octets′ : List ℕ} {next : Restoring} → Went order x r k octets octets′ next → k < count → Passing order x count lent next (k + 1) octets′
+  passing-more m l = record {
+    some = omega arith;
+    long = m .long ∙ p .long;
+    steady = m .steady;
+    exact = λ packed h. walking-more (p .exact packed h) m l;
+  }
+
+  pub passing-beyond : {octets′ : List ℕ} → Stopped order x r k octets octets′ → k < count
+      → (packed : List DecodedValue) → Holding packed count lent → Outcome (from order x (firstRestoring order) packed) count false lent octets′
+  passing-beyond m l packed h = record {
+    answer = sym (ap not (walking-beyond (p .exact packed h) m l));
+    there = λ e. absurd (true≢false (sym e));
+    long = ap length (m .same) ∙ p .long;
+    past = ap (drop (count * 9)) (m .same) ∙ past (p .exact packed h);
+  }
+
+  pub passing-end : count ≤ k → (packed : List DecodedValue) → Holding packed count lent → Outcome (from order x (firstRestoring order) packed) count true lent octets
+  passing-end l packed h =
+      let w = p .exact packed h in
+      let e = walking-end w l in
+      record {
+        answer = sym (ap not (ap (anyOf beyond) (e .0) ∙ w .within));
+        there = λ t. rw (e .0) (e .1);
+        long = p .long;
+        past = past w;
+      }
+
+-- ---- what the payload says
+
+module _ (d : Differencing) (payload : List ℕ) {x : Descriptors} (s : Described d payload x) {count : ℕ} {within : Bool} {before after : List ℕ} where
+  whole : (order : ℕ) → order ≡ d .order
+      → ((packed : List DecodedValue) → Holding packed count before → Outcome (from order x (firstRestoring order) packed) count within before after)
+      → (packed : List DecodedValue) → Holding packed count before → Restored d payload packed within before after
+  whole order e o packed h =
+      let same : from order x (firstRestoring order) packed ≡ restoredFrom d payload packed = rw (e, ← s .firsts, ← s .minimum, kept-zero) in
+      let r = o packed h in
+      record {
+        answer = r .answer ∙ ap (λ (q : List DecodedValue). not (anyOf beyond q)) same;
+        there = λ t. r .there t ∙ ap (λ (q : List DecodedValue). flatMap pointOctets q over before) same;
+        long = r .long;
+        past = rw (h .long) (r .past);
+      }
+
+  pub whole-first : d .order ≡ 1
+      → ((packed : List DecodedValue) → Holding packed count before → Outcome (from 1 x (firstRestoring 1) packed) count within before after)
+      → (packed : List DecodedValue) → Holding packed count before → Restored d payload packed within before after
+  whole-first e o = whole 1 (sym e) o
+
+  pub whole-second : Orderly d → (d .order ≡ 1 → ⊥)
+      → ((packed : List DecodedValue) → Holding packed count before → Outcome (from 2 x (firstRestoring 2) packed) count within before after)
+      → (packed : List DecodedValue) → Holding packed count before → Restored d payload packed within before after
+  whole-second w n o = whole 2 (omega arith) o

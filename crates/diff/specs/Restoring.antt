@@ -1,0 +1,175 @@
+-- Template 5.3, point by point: what a turn owes to document 01's restored points. Assumes nothing.
+use mathlib.Core.Path.{_≡_}
+use mathlib.Core.Bool.{Bool, true, false, not}
+use mathlib.Core.List.{List, [], _∷_, _++_, map, flatMap}
+use Prim.Native.Nat.{ℕ, suc, _+_, _-_, _*_, _^_, _≤_, _<_}
+use lib.ListN.{length, getD, take, drop}
+use lib.IntN.{ℤ, pos, negsuc, subℕ}
+use Rattle.format.specs.Lists.{anyOf, _over_}
+use Rattle.format.specs.Bits.{bitAt, numberAt}
+use Rattle.format.specs.Layout.{pointSize, pointOctets}
+use Rattle.format.specs.Differences.{descriptorsOf, signed, raised, expected, restored, beyond}
+use Rattle.format.specs.declared.Differencing.{Differencing}
+use Rattle.format.specs.declared.DecodedValue.{DecodedValue}
+use Rattle.format.specs.declared.DecodedValue.the-variants.{Normal, Missing1, Missing2}
+use Rattle.diff.specs.declared.Descriptors.{Descriptors}
+use Rattle.diff.specs.declared.Restoring.{Restoring}
+use Rattle.diff.specs.declared.Turn.{Turn}
+use Rattle.diff.specs.declared.Turn.the-variants as turn
+
+-- ---- what a caller sees
+
+-- an order and octets of a descriptor that are accepted
+pub record Orderly (d : Differencing) : Type 0 where
+  pub some : 0 < d .order
+  pub few : d .order ≤ 2
+  pub wide : 0 < d .octets
+  pub narrow : d .octets ≤ 4
+
+-- a packed point as unpacking leaves it: a number of up to 32 bits, or missing
+abbrev pub Small : DecodedValue → Type 0
+Small (Normal (pos n)) = n < 2 ^ 32
+Small (Normal (negsuc n)) = ⊥
+Small Missing1 = Unit
+Small Missing2 = Unit
+
+-- the lent octets hold these packed points at their front
+pub record Holding (packed : List DecodedValue) (count : ℕ) (octets : List ℕ) : Type 0 where
+  pub long : length packed ≡ count
+  pub small : (k : ℕ) → k < count → Small (getD packed k Missing1)
+  pub there : octets ≡ flatMap pointOctets packed over octets
+
+-- all points of document 01, from the packed ones
+abbrev pub restoredFrom : Differencing → List ℕ → List DecodedValue → List DecodedValue
+restoredFrom d payload packed =
+    let x = descriptorsOf d payload in
+    restored (d .order) (x .firsts) (pos 0) (pos 0) (map (raised (x .minimum)) packed)
+
+-- whether all numbers are within 2^60 either way; and where they are, the points stand in the place of the packed ones
+pub record Restored (d : Differencing) (payload : List ℕ) (packed : List DecodedValue) (within : Bool) (before after : List ℕ) : Type 0 where
+  pub answer : within ≡ not (anyOf beyond (restoredFrom d payload packed))
+  pub there : within ≡ true → after ≡ flatMap pointOctets (restoredFrom d payload packed) over before
+  pub long : length after ≡ length before
+  pub past : drop (length packed * pointSize) after ≡ drop (length packed * pointSize) before
+
+-- ---- numbers that are kept
+
+-- what is added to each number that is kept, so that none is below zero
+abbrev pub bias : ℕ
+bias = 2 ^ 62 - 1
+
+-- the number that is kept as n
+unfoldable pub kept : ℕ → ℤ
+kept n = subℕ n bias
+
+-- those that are within 2^60 either way
+pub record Near (n : ℕ) : Type 0 where
+  pub low : bias - 2 ^ 60 ≤ n
+  pub high : n ≤ bias + 2 ^ 60
+
+-- first values are unsigned, of up to 32 bits; the minimum has a sign and up to 31 more
+pub record Bounded (x : Descriptors) : Type 0 where
+  pub first-low : bias ≤ x .first
+  pub first-high : x .first < bias + 2 ^ 32
+  pub second-low : bias ≤ x .second
+  pub second-high : x .second < bias + 2 ^ 32
+  pub minimum-low : bias ≤ x .minimum + 2 ^ 31
+  pub minimum-high : x .minimum ≤ bias + 2 ^ 31
+
+-- a minimum of so many octets behind so many first values
+pub record Minimum (payload : List ℕ) (octets order r : ℕ) : Type 0 where
+  pub number : signed (bitAt payload (order * (octets * 8))) (numberAt payload (suc (order * (octets * 8))) (octets * 8 - 1)) ≡ kept r
+  pub low : bias ≤ r + 2 ^ 31
+  pub high : r ≤ bias + 2 ^ 31
+
+-- of `order` first values the last `left`
+unfoldable pub toCome : ℕ → ℕ → Descriptors → List ℤ
+toCome order left x = drop (order - left) (take order (kept (x .first) ∷ kept (x .second) ∷ []))
+
+-- they are what the payload says
+pub record Described (d : Differencing) (payload : List ℕ) (x : Descriptors) : Type 0 where
+  pub bounded : Bounded x
+  pub firsts : descriptorsOf d payload .firsts ≡ toCome (d .order) (d .order) x
+  pub minimum : descriptorsOf d payload .minimum ≡ kept (x .minimum)
+
+-- what is expected behind two numbers, which is at most three times as far away
+pub record Expected (order previous before r : ℕ) : Type 0 where
+  pub number : expected order (kept previous) (kept before) ≡ kept r
+  pub low : bias ≤ r + 3 * 2 ^ 60
+  pub high : r ≤ bias + 3 * 2 ^ 60
+
+-- ---- a turn
+
+-- a number behind another, before so many first values that are still to come
+abbrev pub following : ℕ → ℕ → Restoring → Restoring
+following left number r = record { left = left; previous = number; before = r .previous }
+
+-- restoring as it is between two points
+pub record Steady (order : ℕ) (r : Restoring) : Type 0 where
+  pub few : r .left ≤ order
+  pub previous : Near (r .previous)
+  pub before : Near (r .before)
+
+-- a packed point, in the lent octets between others
+pub record Lying (k : ℕ) (octets : List ℕ) (packed : DecodedValue) (front behind : List ℕ) : Type 0 where
+  pub small : Small packed
+  pub long : length front ≡ k * pointSize
+  pub there : octets ≡ front ++ (pointOctets packed ++ behind)
+
+module _ (order : ℕ) (x : Descriptors) where
+  -- the points that come of these packed ones, once restoring has come as far as r
+  abbrev pub from : Restoring → List DecodedValue → List DecodedValue
+  from r packed =
+      restored order (toCome order (r .left) x) (kept (r .previous)) (kept (r .before))
+      (map (raised (kept (x .minimum))) packed)
+
+  -- a point comes of a packed one, and restoring goes on
+  abbrev pub Comes : Restoring → DecodedValue → DecodedValue → Restoring → Type 0
+  Comes r packed point next = (more : List DecodedValue) → from r (packed ∷ more) ≡ point ∷ from next more
+
+  -- the next number, which may be beyond
+  pub record Next (r : Restoring) (packed : ℕ) (next : Restoring) : Type 0 where
+    pub few : next .left ≤ order
+    pub before : next .before ≡ r .previous
+    pub point : Comes r (Normal (pos packed)) (Normal (kept (next .previous))) next
+
+  -- a point in its place
+  pub record Advanced (r : Restoring) (octets : List ℕ) (packed : DecodedValue) (front behind : List ℕ) (next : Restoring) : Type 0 where
+    pub point : DecodedValue
+    pub within : beyond point ≡ false
+    pub comes : Comes r packed point next
+    pub there : octets ≡ front ++ (pointOctets point ++ behind)
+
+  pub record Went (r : Restoring) (k : ℕ) (before after : List ℕ) (next : Restoring) : Type 0 where
+    pub steady : Steady order next
+    pub long : length after ≡ length before
+    pub exact : (packed : DecodedValue) (front behind : List ℕ) → Lying k before packed front behind → Advanced r after packed front behind next
+
+  -- a point whose number is beyond
+  pub record Ended (r : Restoring) (packed : DecodedValue) : Type 0 where
+    pub next : Restoring
+    pub point : DecodedValue
+    pub past : beyond point ≡ true
+    pub comes : Comes r packed point next
+
+  pub record Stopped (r : Restoring) (k : ℕ) (before after : List ℕ) : Type 0 where
+    pub same : after ≡ before
+    pub exact : (packed : DecodedValue) (front behind : List ℕ) → Lying k before packed front behind → Ended r packed
+
+  -- what a turn tells
+  abbrev pub Told : Restoring → ℕ → List ℕ → List ℕ → Turn → Type 0
+  Told r k before after (turn.On next) = Went r k before after next
+  Told r k before after turn.Beyond = Stopped r k before after
+
+-- ---- all points
+
+-- the first point is still to come
+abbrev pub firstRestoring : ℕ → Restoring
+firstRestoring order = record { left = order; previous = bias; before = bias }
+
+-- of all points, `size` in number: the same as `Restored`
+pub record Outcome (points : List DecodedValue) (size : ℕ) (within : Bool) (before after : List ℕ) : Type 0 where
+  pub answer : within ≡ not (anyOf beyond points)
+  pub there : within ≡ true → after ≡ flatMap pointOctets points over before
+  pub long : length after ≡ length before
+  pub past : drop (size * pointSize) after ≡ drop (size * pointSize) before
