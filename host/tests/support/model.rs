@@ -259,9 +259,10 @@ pub fn template(number_width: u8, groups: u32, width: (u8, u8), length: (u32, u8
 }
 
 /// A field: numbers, each of so many bits, end to end, and the pad bit to the end of the last octet.
-pub fn field(pad: u8, numbers: impl IntoIterator<Item = (u32, u64)>) -> Vec<u8> {
+pub fn field(pad: u8, numbers: impl IntoIterator<Item = (u64, u64)>) -> Vec<u8> {
     let mut bits = Vec::new();
     for (width, number) in numbers {
+        assert!(width >= 64 || number >> width == 0, "{number} has more than {width} bits");
         bits.extend((0..width).rev().map(|place| (number >> place & 1) as u8));
     }
     bits.resize(bits.len().next_multiple_of(8), pad);
@@ -277,8 +278,7 @@ pub struct Written {
     pub values: Vec<u64>,
 }
 
-/// A payload. Descriptors are written under 5.3 alone. A group's values have its width as the template says it, so that
-/// a width that is refused is written too.
+/// A payload. Descriptors are written under 5.3 alone.
 pub fn payload(
     template: &Template,
     differences: Option<&Differences>,
@@ -286,21 +286,19 @@ pub fn payload(
     groups: &[Written],
     pad: u8,
 ) -> Vec<u8> {
+    let at = |width: u8, number: u64| (u64::from(width), number);
     let mut payload = Vec::new();
     if let Some(differences) = differences {
-        let bits = 8 * u32::from(differences.descriptor_octets);
-        payload.extend(field(pad, descriptors.iter().map(|number| (bits, *number))));
+        let bits = 8 * differences.descriptor_octets;
+        payload.extend(field(pad, descriptors.iter().map(|number| at(bits, *number))));
     }
-    let width = |width: u8| u32::from(width);
-    payload.extend(field(pad, groups.iter().map(|group| (width(template.number_width), group.reference))));
-    payload.extend(field(pad, groups.iter().map(|group| (width(template.width_bits), group.width_code))));
-    payload.extend(field(pad, groups.iter().map(|group| (width(template.length_bits), group.length_code))));
-    payload.extend(field(
-        pad,
-        groups.iter().flat_map(|group| {
-            let width = group.width_code as u32 + width(template.width_reference);
-            group.values.iter().map(move |value| (width, *value))
-        }),
-    ));
+    payload.extend(field(pad, groups.iter().map(|group| at(template.number_width, group.reference))));
+    payload.extend(field(pad, groups.iter().map(|group| at(template.width_bits, group.width_code))));
+    payload.extend(field(pad, groups.iter().map(|group| at(template.length_bits, group.length_code))));
+    let values = groups.iter().flat_map(|group| {
+        let width = group.width_code + u64::from(template.width_reference);
+        group.values.iter().map(move |value| (width, *value))
+    });
+    payload.extend(field(pad, values));
     payload
 }
