@@ -442,7 +442,7 @@ fn chain(shift: u64, groups: &[(i64, u32)]) -> Input {
 fn exact(input: &Input) -> (i128, i128, i128) {
     let points = model::points(input).unwrap();
     let numbers = || points.iter().map(|(_, number)| *number);
-    (numbers().min().unwrap(), numbers().max().unwrap(), numbers().last().unwrap())
+    (numbers().min().unwrap(), numbers().max().unwrap(), numbers().next_back().unwrap())
 }
 
 /// "a restored number is beyond 2^60 either way": 2^60 and −2^60 are not beyond, the next numbers are.
