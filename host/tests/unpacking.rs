@@ -374,6 +374,17 @@ fn sets_of_faults_give_the_first() {
 }
 
 #[test]
+fn the_declared_count_is_exact() {
+    for input in [two_groups(), second_order()] {
+        for declared in (0..=8).chain([MOST_POINTS, MOST_POINTS + 1, MOST_POINTS + 4, 1 << 31, u32::MAX]) {
+            let answer = if declared == 4 { 0 } else { 9 };
+            assert_eq!(compare(&Input { declared, ..input.clone() }, 100), answer, "{declared}");
+        }
+    }
+}
+
+/// The order is literal: 6 comes before 7 for the group fields, and after 7 for the descriptors.
+#[test]
 fn an_empty_payload_without_groups() {
     assert_eq!(complex(template(0, 0, (0, 0), (0, 0, 0, 0)), 0, &[]).points(), refused(6));
     assert_eq!(spatial(1, 1, template(0, 0, (0, 0), (0, 0, 0, 0)), 0, &[]).points(), refused(7));
