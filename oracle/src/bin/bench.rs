@@ -25,13 +25,21 @@ mod bench {
     use std::hint::black_box;
     use std::time::Instant;
 
-    use cleatmow::maps::{RunLengthMap, rain};
-    use cleatmow::{LEVEL_OCTETS, MOST_POINTS, run_length, run_length_into};
-    use oracle::rust_run_length;
+    use cleatmow::maps::{ComplexMap, RunLengthMap, gust_differences, gusts, rain};
+    use cleatmow::{
+        LEVEL_OCTETS, MOST_POINTS, POINT_OCTETS, Point, points_in, run_length, run_length_into, unpack_complex,
+        unpack_complex_into, unpack_spatial, unpack_spatial_into,
+    };
+    use oracle::{Section7, rust_run_length, rust_unpack_complex, rust_unpack_spatial};
 
-    /// Every operation: with `cleatmow_` before its name it is the C call, with `rust_` the oracle's function.
-    const OPERATIONS: [(&str, Run); 1] =
-        [("run_length", |name, options| bench(name, RunLength::new(options.points), options))];
+    /// Every operation: with `cleatmow_` before its name it is the C call, with `rust_` the oracle's function. Under 5.3
+    /// the order stands at the end of the name, and is no part of theirs.
+    const OPERATIONS: [(&str, Run); 4] = [
+        ("run_length", |name, options| bench(name, RunLength::new(options.points), options)),
+        ("unpack_complex", |name, options| bench(name, Unpacking::new(gusts(options.points)), options)),
+        ("unpack_spatial_1", |name, options| bench(name, Unpacking::new(gust_differences(1, options.points)), options)),
+        ("unpack_spatial_2", |name, options| bench(name, Unpacking::new(gust_differences(2, options.points)), options)),
+    ];
 
     /// Does with an operation of this name what the options say.
     type Run = fn(&str, &Options);
@@ -91,6 +99,69 @@ mod bench {
 
         fn right(&self) -> &Vec<u16> {
             &self.map.levels
+        }
+
+        fn octets(&self) -> usize {
+            self.map.payload.len()
+        }
+    }
+
+    /// Under 5.3 where the map has differences.
+    struct Unpacking {
+        map: ComplexMap,
+        /// The payload where the Rust looks for it.
+        section: Section7,
+        points: Vec<u8>,
+    }
+
+    impl Unpacking {
+        fn new(map: ComplexMap) -> Self {
+            let section = Section7::new(&map.payload);
+            let points = vec![0; map.declared as usize * POINT_OCTETS];
+            Self { map, section, points }
+        }
+    }
+
+    impl Operation for Unpacking {
+        type Answer = Vec<Point>;
+
+        fn ours_lent(&mut self) {
+            let ComplexMap { ref template, ref differences, declared, ref payload, .. } = self.map;
+            let payload = black_box(payload);
+            match differences {
+                None => unpack_complex_into(template, declared, payload, &mut self.points),
+                Some(differences) => unpack_spatial_into(template, differences, declared, payload, &mut self.points),
+            }
+            .expect("a good map");
+            black_box(&mut self.points);
+        }
+
+        fn ours_new(&self) -> Vec<Point> {
+            let ComplexMap { ref template, ref differences, declared, ref payload, .. } = self.map;
+            let payload = black_box(payload);
+            match differences {
+                None => unpack_complex(template, declared, payload),
+                Some(differences) => unpack_spatial(template, differences, declared, payload),
+            }
+            .expect("a good map")
+        }
+
+        fn rust(&self) -> Vec<Point> {
+            let ComplexMap { ref template, ref differences, .. } = self.map;
+            let section = black_box(&self.section);
+            match differences {
+                None => rust_unpack_complex(template, section),
+                Some(differences) => rust_unpack_spatial(template, differences, section),
+            }
+            .expect("a good map")
+        }
+
+        fn left(&self) -> Vec<Point> {
+            points_in(&self.points).collect()
+        }
+
+        fn right(&self) -> &Vec<Point> {
+            &self.map.points
         }
 
         fn octets(&self) -> usize {
