@@ -5,8 +5,8 @@
  * Every call:
  * - answers 0, or the number of a refusal (enum cleatmow_refusal). Its comment lists the refusals in the order in which
  *   they are tested; the first that applies is the answer.
- * - takes a list of octets as a pointer and a length in octets. In a lent buffer, spare octets short of a whole level
- *   are not used.
+ * - takes a list of octets as a pointer and a length in octets. In a lent buffer, spare octets short of a whole point
+ *   or level are not used.
  * - leaves the places past its answer unchanged after success, and changes no buffer on a refusal unless its comment
  *   says so. It writes nowhere else.
  * - keeps nothing and allocates nothing, so calls on buffers of their own may run at the same time.
@@ -60,8 +60,66 @@ enum cleatmow_refusal {
 /* The greatest declared count. No call needs a buffer with room for more. */
 #define CLEATMOW_MOST_POINTS 4194304
 
+/*
+ * The size of a point in octets: the mark (0 number, 1 missing 1, 2 missing 2), then the number in eight octets,
+ * big-endian two's complement. A missing point holds number 0.
+ */
+#define CLEATMOW_POINT_OCTETS 9
+
 /* The size of a level in octets: a number from 0 to M, big-endian. */
 #define CLEATMOW_LEVEL_OCTETS 2
+
+/*
+ * Unpacking under template 5.2: reads the points of a map. Pad bits and octets after the last value are ignored.
+ *
+ * declared     how many points the map is declared to have, missing ones too: up to CLEATMOW_MOST_POINTS
+ * num_bits     number width, the bits of a group reference: up to 31
+ * splitting    splitting method: 1
+ * missing      missing management: 0, 1 or 2
+ * num_groups   group count: 1 to 4,194,304
+ * width_ref    width reference. A group's width, its width code + width_ref, is up to 31
+ * width_bits   bits of a width code: up to 32
+ * len_ref      length reference. A group's length is its length code * len_inc + len_ref, up to 4,294,967,295
+ * len_inc      increment
+ * len_last     length of the last group, whose length code is ignored
+ * len_bits     bits of a length code: up to 32
+ * payload      the octets of Section 7 after its five-octet header
+ * payload_len  how many octets the payload has
+ * points       lent: room for declared points, CLEATMOW_POINT_OCTETS each
+ * points_len   how many octets are lent; more than the points take is fine
+ *
+ * Refusals, in this order: 1, 2, 6, 5, 7 for the group fields, 8, 7 for the values, 9, 10. A refusal changes nothing.
+ * 0: the points stand at the front of `points`, declared times CLEATMOW_POINT_OCTETS octets; those past them are
+ *    unchanged.
+ */
+uint32_t cleatmow_unpack_complex(
+    uint32_t declared, uint8_t num_bits, uint8_t splitting, uint8_t missing,
+    uint32_t num_groups, uint8_t width_ref, uint8_t width_bits,
+    uint32_t len_ref, uint8_t len_inc, uint32_t len_last, uint8_t len_bits,
+    const uint8_t *payload, size_t payload_len,
+    uint8_t *points, size_t points_len);
+
+/*
+ * Unpacking under template 5.3: reads the points of a map and restores their numbers from differences. The payload
+ * begins with the descriptors: as many first values as the order says, unsigned, then the overall minimum with a
+ * leading sign bit.
+ *
+ * order              differencing order: 1 or 2
+ * descriptor_octets  how many octets each first value takes, and the minimum: 1 to 4
+ * The other arguments are those of cleatmow_unpack_complex.
+ *
+ * Refusals, in this order: 3, 1, 2, 4, 7 for the descriptors, 6, 5, 7 for the group fields, 8, 7 for the values, 9, 10,
+ * 12. A refusal changes nothing, but for 12, which leaves number 0 and mark 0 in the declared places, those of missing
+ * points too: declared times CLEATMOW_POINT_OCTETS octets of 0. They look like points and are none.
+ * 0: as for cleatmow_unpack_complex.
+ */
+uint32_t cleatmow_unpack_spatial(
+    uint32_t declared, uint8_t num_bits, uint8_t splitting, uint8_t missing,
+    uint32_t num_groups, uint8_t width_ref, uint8_t width_bits,
+    uint32_t len_ref, uint8_t len_inc, uint32_t len_last, uint8_t len_bits,
+    uint8_t order, uint8_t descriptor_octets,
+    const uint8_t *payload, size_t payload_len,
+    uint8_t *points, size_t points_len);
 
 /*
  * Run-length, template 7.200: reads the levels of a map. All whole codes in the payload are read; fewer than `bits`

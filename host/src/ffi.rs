@@ -1,7 +1,47 @@
 //! The C calls, as include/cleatmow.h declares them, each over slices. The only unsafe code of this crate.
 
+use crate::{Differences, Template};
+
 mod c {
     extern "C" {
+        pub fn cleatmow_unpack_complex(
+            declared: u32,
+            num_bits: u8,
+            splitting: u8,
+            missing: u8,
+            num_groups: u32,
+            width_ref: u8,
+            width_bits: u8,
+            len_ref: u32,
+            len_inc: u8,
+            len_last: u32,
+            len_bits: u8,
+            payload: *const u8,
+            payload_len: usize,
+            points: *mut u8,
+            points_len: usize,
+        ) -> u32;
+
+        pub fn cleatmow_unpack_spatial(
+            declared: u32,
+            num_bits: u8,
+            splitting: u8,
+            missing: u8,
+            num_groups: u32,
+            width_ref: u8,
+            width_bits: u8,
+            len_ref: u32,
+            len_inc: u8,
+            len_last: u32,
+            len_bits: u8,
+            order: u8,
+            descriptor_octets: u8,
+            payload: *const u8,
+            payload_len: usize,
+            points: *mut u8,
+            points_len: usize,
+        ) -> u32;
+
         pub fn cleatmow_run_length(
             bits: u8,
             max_level: u16,
@@ -14,9 +54,63 @@ mod c {
     }
 }
 
-pub fn run_length(bits: u8, max_level: u16, declared: u32, payload: &[u8], levels: &mut [u8]) -> u32 {
-    // SAFETY: each pointer and length is that of a slice, so as many octets stand behind it; `levels` is borrowed for
+pub fn unpack_complex(template: &Template, declared: u32, payload: &[u8], points: &mut [u8]) -> u32 {
+    // SAFETY: each pointer and length is that of a slice, so as many octets stand behind it; `points` is borrowed for
     // writing, so it overlaps nothing and nobody else uses it. The call keeps neither pointer.
+    unsafe {
+        c::cleatmow_unpack_complex(
+            declared,
+            template.number_width,
+            template.splitting,
+            template.missing,
+            template.groups,
+            template.width_reference,
+            template.width_bits,
+            template.length_reference,
+            template.length_increment,
+            template.last_length,
+            template.length_bits,
+            payload.as_ptr(),
+            payload.len(),
+            points.as_mut_ptr(),
+            points.len(),
+        )
+    }
+}
+
+pub fn unpack_spatial(
+    template: &Template,
+    differences: &Differences,
+    declared: u32,
+    payload: &[u8],
+    points: &mut [u8],
+) -> u32 {
+    // SAFETY: as in `unpack_complex`.
+    unsafe {
+        c::cleatmow_unpack_spatial(
+            declared,
+            template.number_width,
+            template.splitting,
+            template.missing,
+            template.groups,
+            template.width_reference,
+            template.width_bits,
+            template.length_reference,
+            template.length_increment,
+            template.last_length,
+            template.length_bits,
+            differences.order,
+            differences.descriptor_octets,
+            payload.as_ptr(),
+            payload.len(),
+            points.as_mut_ptr(),
+            points.len(),
+        )
+    }
+}
+
+pub fn run_length(bits: u8, max_level: u16, declared: u32, payload: &[u8], levels: &mut [u8]) -> u32 {
+    // SAFETY: as in `unpack_complex`, with `levels` for `points`.
     unsafe {
         c::cleatmow_run_length(
             bits,

@@ -14,6 +14,46 @@
 //! # Ok::<(), cleatmow::Refusal>(())
 //! ```
 //!
+//! Templates 5.2 and 5.3 hand over the numbers of Section 5 by name:
+//!
+//! ```
+//! use cleatmow::{unpack_complex, unpack_spatial, Differences, Point, Template};
+//!
+//! let template = Template {
+//!     number_width: 3,
+//!     splitting: 1,
+//!     missing: 0,
+//!     groups: 2,
+//!     width_reference: 0,
+//!     width_bits: 1,
+//!     length_reference: 3,
+//!     length_increment: 0,
+//!     last_length: 1,
+//!     length_bits: 0,
+//! };
+//! let points = unpack_complex(&template, 4, &[0xBC, 0x80, 0x40])?;
+//! assert_eq!(points, [5, 6, 5, 7].map(Point::Number));
+//!
+//! // The same octets under missing management 1: a point without a forecast is never a number.
+//! let points = unpack_complex(&Template { missing: 1, ..template }, 4, &[0xBC, 0x80, 0x40])?;
+//! assert_eq!(points, [Point::Number(5), Point::Missing1, Point::Number(5), Point::Missing1]);
+//!
+//! // Differences of the first order: the first value 10 and the minimum −2 stand before the group fields.
+//! let template = Template {
+//!     number_width: 0,
+//!     groups: 1,
+//!     width_reference: 3,
+//!     width_bits: 0,
+//!     length_reference: 0,
+//!     last_length: 4,
+//!     ..template
+//! };
+//! let differences = Differences { order: 1, descriptor_octets: 1 };
+//! let points = unpack_spatial(&template, &differences, 4, &[0x0A, 0x82, 0x0C, 0x50])?;
+//! assert_eq!(points, [10, 11, 9, 12].map(Point::Number));
+//! # Ok::<(), cleatmow::Refusal>(())
+//! ```
+//!
 //! Its build runs `rt staticlib cleatmow` in the folder above and links the archive; `rt`, the Rattle toolchain, must
 //! be on the PATH. `CLEATMOW_ARCHIVE_DIR` names a folder that has `libcleatmow.a` already, and nothing is made then.
 //! A host in another language links `target/staticlib/libcleatmow.a` and includes `include/cleatmow.h`.
@@ -25,9 +65,14 @@ mod ffi;
 pub mod maps;
 mod refusal;
 mod run_length;
+mod unpacking;
 
 pub use refusal::Refusal;
 pub use run_length::{run_length, run_length_into, LEVEL_OCTETS};
+pub use unpacking::{
+    points_in, unpack_complex, unpack_complex_into, unpack_spatial, unpack_spatial_into, Differences, Point, Template,
+    POINT_OCTETS,
+};
 
 /// The greatest declared count. No call needs a buffer with room for more.
 pub const MOST_POINTS: u32 = 4_194_304;

@@ -1,41 +1,136 @@
-//! What the wrappers allocate. The only test of its file, since it watches the whole program's allocator.
+//! What the wrappers allocate, and that the calls on lent octets do not.
 
-use cleatmow::{run_length, Refusal, LEVEL_OCTETS, MOST_POINTS};
+use cleatmow::{
+    run_length, run_length_into, unpack_complex, unpack_complex_into, unpack_spatial, unpack_spatial_into, Differences,
+    Refusal, Template, LEVEL_OCTETS, MOST_POINTS, POINT_OCTETS,
+};
 use std::alloc::{GlobalAlloc, Layout, System};
-use std::sync::atomic::{AtomicUsize, Ordering};
+use std::cell::Cell;
 
-/// The system's allocator, which notes the largest request.
+/// The system's allocator, which notes for each thread how often it is asked, and the largest request.
 struct Watched;
 
-static LARGEST: AtomicUsize = AtomicUsize::new(0);
+thread_local! {
+    static REQUESTS: Cell<usize> = const { Cell::new(0) };
+    static LARGEST: Cell<usize> = const { Cell::new(0) };
+}
 
 #[global_allocator]
 static ALLOCATOR: Watched = Watched;
 
+fn note(size: usize) {
+    REQUESTS.set(REQUESTS.get() + 1);
+    LARGEST.set(LARGEST.get().max(size));
+}
+
 // SAFETY: every request goes to the system's allocator as it is.
 unsafe impl GlobalAlloc for Watched {
     unsafe fn alloc(&self, layout: Layout) -> *mut u8 {
-        LARGEST.fetch_max(layout.size(), Ordering::Relaxed);
+        note(layout.size());
         System.alloc(layout)
     }
     unsafe fn alloc_zeroed(&self, layout: Layout) -> *mut u8 {
-        LARGEST.fetch_max(layout.size(), Ordering::Relaxed);
+        note(layout.size());
         System.alloc_zeroed(layout)
+    }
+    unsafe fn realloc(&self, place: *mut u8, layout: Layout, size: usize) -> *mut u8 {
+        note(size);
+        System.realloc(place, layout, size)
     }
     unsafe fn dealloc(&self, place: *mut u8, layout: Layout) {
         System.dealloc(place, layout)
     }
 }
 
+/// How often a call asks the allocator, and its largest request.
+fn asked(call: impl FnOnce()) -> (usize, usize) {
+    REQUESTS.set(0);
+    LARGEST.set(0);
+    call();
+    (REQUESTS.get(), LARGEST.get())
+}
+
+/// One group of width 3 with so many points. It takes no group fields.
+fn template(last_length: u32) -> Template {
+    Template {
+        number_width: 0,
+        splitting: 1,
+        missing: 0,
+        groups: 1,
+        width_reference: 3,
+        width_bits: 0,
+        length_reference: 0,
+        length_increment: 0,
+        last_length,
+        length_bits: 0,
+    }
+}
+
+const DIFFERENCES: Differences = Differences { order: 1, descriptor_octets: 1 };
+
+#[test]
+fn the_allocator_is_watched() {
+    assert_eq!(asked(|| drop(std::hint::black_box(vec![0_u8; 77]))), (1, 77));
+    assert_eq!(asked(|| drop(std::hint::black_box(Vec::<u8>::with_capacity(78)))), (1, 78));
+    assert_eq!(asked(|| ()), (0, 0));
+}
+
 #[test]
 fn nothing_is_lent_above_the_limit() {
-    let largest = |declared| {
-        LARGEST.store(0, Ordering::Relaxed);
-        assert_eq!(run_length(4, 9, declared, &[0x3C, 0xB5]), Err(Refusal::Points));
-        LARGEST.load(Ordering::Relaxed)
-    };
-    assert_eq!(largest(MOST_POINTS), MOST_POINTS as usize * LEVEL_OCTETS);
-    for declared in [MOST_POINTS + 1, 1 << 31, u32::MAX] {
-        assert!(largest(declared) < 65_536, "{declared} declared");
+    type Lends = fn(u32);
+    let lends: [(Lends, usize); 3] = [
+        (|declared| assert_eq!(run_length(4, 9, declared, &[0x3C, 0xB5]), Err(Refusal::Points)), LEVEL_OCTETS),
+        (
+            |declared| assert_eq!(unpack_complex(&template(4), declared, &[0x0C, 0x50]), Err(Refusal::Points)),
+            POINT_OCTETS,
+        ),
+        (
+            |declared| {
+                let payload = [0x0A, 0x82, 0x0C, 0x50];
+                assert_eq!(unpack_spatial(&template(4), &DIFFERENCES, declared, &payload), Err(Refusal::Points));
+            },
+            POINT_OCTETS,
+        ),
+    ];
+    for (call, octets) in lends {
+        assert_eq!(asked(|| call(MOST_POINTS)), (1, MOST_POINTS as usize * octets));
+        for declared in [MOST_POINTS + 1, 1 << 31, u32::MAX] {
+            assert_eq!(asked(|| call(declared)), (0, 0), "{declared} declared");
+        }
     }
+}
+
+/// Points are lent once, and turned into a list of the right size.
+#[test]
+fn a_list_of_points_is_two_requests() {
+    let payload = vec![0x53; 3_000];
+    let (requests, largest) =
+        asked(|| assert_eq!(unpack_complex(&template(8_000), 8_000, &payload).unwrap().len(), 8_000));
+    assert_eq!((requests, largest), (2, 8_000 * size_of::<cleatmow::Point>()));
+}
+
+#[test]
+fn calls_on_lent_octets_allocate_nothing() {
+    let payload = vec![0x53; 3_000];
+    let mut points = vec![0; 8_000 * POINT_OCTETS];
+    let mut levels = vec![0; 3_000 * LEVEL_OCTETS];
+    let beyond = Template { number_width: 31, width_reference: 0, ..template(40_000) };
+    let mut many = vec![0; 40_000 * POINT_OCTETS];
+    let far = [0, 0, 0, 0, 0, 0, 0, 0, 0, 0, 0, 0, 0xFF, 0xFF, 0xFF, 0xF0];
+    let nothing = asked(|| {
+        // Answers 0, 7, 9, 10 and 12.
+        assert_eq!(unpack_complex_into(&template(8_000), 8_000, &payload, &mut points), Ok(()));
+        assert_eq!(unpack_complex_into(&template(8_001), 8_001, &payload, &mut points), Err(Refusal::Short));
+        assert_eq!(unpack_complex_into(&template(7_999), 8_000, &payload, &mut points), Err(Refusal::Points));
+        assert_eq!(unpack_complex_into(&template(8_000), 8_000, &payload, &mut points[1..]), Err(Refusal::Room));
+        let spatial =
+            |last, points: &mut [u8]| unpack_spatial_into(&template(last), &DIFFERENCES, last, &payload, points);
+        assert_eq!(spatial(7_994, &mut points), Ok(()));
+        assert_eq!(spatial(7_995, &mut points), Err(Refusal::Short));
+        assert_eq!(spatial(7_994, &mut points[55..]), Err(Refusal::Room));
+        let second = Differences { order: 2, descriptor_octets: 4 };
+        assert_eq!(unpack_spatial_into(&beyond, &second, 40_000, &far, &mut many), Err(Refusal::Beyond));
+        assert_eq!(run_length_into(8, 200, 3_000, &payload, &mut levels), Ok(()));
+    });
+    assert_eq!(nothing, (0, 0));
 }

@@ -1,30 +1,128 @@
-/* A host in C: document 01's case 3C B5 and its refusals. It ends with 0, or with the line that went wrong. */
+/* A host in C: cases of document 01 and their refusals. It ends with 0, or with the line that went wrong. */
 #include "cleatmow.h"
 #include <string.h>
 
 #define EXPECT(fact) do { if (!(fact)) return __LINE__; } while (0)
 
-int main(void) {
+/* A point as it stands in a lent buffer. */
+static int is_point(const uint8_t *octets, uint8_t mark, int64_t number) {
+    uint64_t rest = (uint64_t)number;
+    int i;
+    for (i = CLEATMOW_POINT_OCTETS - 1; i > 0; i--, rest >>= 8) {
+        if (octets[i] != (uint8_t)rest) return 0;
+    }
+    return octets[0] == mark;
+}
+
+static int is_all(const uint8_t *octets, size_t len, uint8_t octet) {
+    size_t i;
+    for (i = 0; i < len && octets[i] == octet; i++) {}
+    return i == len;
+}
+
+static int constants(void) {
+    EXPECT(CLEATMOW_MOST_POINTS == 4194304);
+    EXPECT(CLEATMOW_POINT_OCTETS == 9 && CLEATMOW_LEVEL_OCTETS == 2);
+    EXPECT(CLEATMOW_REFUSAL_SPLITTING == 1 && CLEATMOW_REFUSAL_NUMBERS == 13);
+    return 0;
+}
+
+static int unpack_complex(void) {
+    const uint8_t payload[] = {0xBC, 0x80, 0x40};
+    uint8_t points[4 * CLEATMOW_POINT_OCTETS + 3];
+    const size_t room = sizeof points;
+    memset(points, 0xEE, room);
+
+#define UNPACK(declared, width, splitting, missing, groups, reference, last, len, lent) cleatmow_unpack_complex( \
+    declared, width, splitting, missing, groups, reference, 1, 3, 0, last, 0, payload, len, points, lent)
+    EXPECT(UNPACK(4, 3, 0, 0, 2, 0, 1, 3, room) == CLEATMOW_REFUSAL_SPLITTING);
+    EXPECT(UNPACK(4, 3, 1, 3, 2, 0, 1, 3, room) == CLEATMOW_REFUSAL_MANAGEMENT);
+    EXPECT(UNPACK(4, 3, 1, 0, 0, 0, 1, 3, room) == CLEATMOW_REFUSAL_GROUP_COUNT);
+    EXPECT(UNPACK(4, 32, 1, 0, 2, 0, 1, 3, room) == CLEATMOW_REFUSAL_WIDTH);
+    EXPECT(UNPACK(4, 3, 1, 0, 2, 0, 1, 1, room) == CLEATMOW_REFUSAL_SHORT);
+    EXPECT(UNPACK(4, 3, 1, 0, 2, 31, 1, 3, room) == CLEATMOW_REFUSAL_GROUP_SIZE);
+    EXPECT(UNPACK(4, 3, 1, 0, 2, 0, 1, 2, room) == CLEATMOW_REFUSAL_SHORT);
+    EXPECT(UNPACK(4, 3, 1, 0, 2, 0, 0, 3, room) == CLEATMOW_REFUSAL_POINTS);
+    EXPECT(UNPACK(4, 3, 1, 0, 2, 0, 1, 3, 35) == CLEATMOW_REFUSAL_ROOM);
+    EXPECT(is_all(points, room, 0xEE));
+
+    EXPECT(UNPACK(4, 3, 1, 0, 2, 0, 1, 3, room) == 0);
+    EXPECT(is_point(points, 0, 5) && is_point(points + 9, 0, 6));
+    EXPECT(is_point(points + 18, 0, 5) && is_point(points + 27, 0, 7));
+    EXPECT(is_all(points + 36, 3, 0xEE));
+    EXPECT(UNPACK(4, 3, 1, 2, 2, 0, 1, 3, room) == 0);
+    EXPECT(is_point(points, 2, 0) && is_point(points + 9, 1, 0));
+    EXPECT(is_point(points + 18, 2, 0) && is_point(points + 27, 1, 0));
+    EXPECT(is_all(points + 36, 3, 0xEE));
+
+    /* An empty payload and an empty buffer, as null pointers. */
+    EXPECT(cleatmow_unpack_complex(0, 0, 1, 0, 1, 0, 0, 0, 0, 0, 0, NULL, 0, NULL, 0) == 0);
+    EXPECT(cleatmow_unpack_complex(3, 0, 1, 0, 1, 0, 0, 0, 0, 3, 0, NULL, 0, NULL, 0) == CLEATMOW_REFUSAL_ROOM);
+    EXPECT(cleatmow_unpack_complex(3, 0, 1, 1, 1, 0, 0, 0, 0, 3, 0, NULL, 0, points, room) == 0);
+    EXPECT(is_point(points, 1, 0) && is_point(points + 9, 1, 0) && is_point(points + 18, 1, 0));
+    return 0;
+}
+
+static int unpack_spatial(void) {
+    /* The last has first values 0 and 2^32 - 1, and minimum 0; each number is 2^31 - 1 more than a straight line. */
+    const uint8_t first[] = {0x0A, 0x82, 0x0C, 0x50}, second[] = {0x0A, 0x0C, 0x81, 0x09};
+    const uint8_t beyond[] = {0, 0, 0, 0, 0xFF, 0xFF, 0xFF, 0xFF, 0, 0, 0, 0, 0xFF, 0xFF, 0xFF, 0xFE};
+    static uint8_t points[40000 * CLEATMOW_POINT_OCTETS + 3];
+    const size_t room = sizeof points;
+    memset(points, 0xEE, room);
+
+#define RESTORE(order, octets, width, declared, payload, lent) cleatmow_unpack_spatial( \
+    declared, 0, 1, 0, 1, width, 0, 0, 0, declared, 0, order, octets, payload, sizeof payload, points, lent)
+    EXPECT(RESTORE(0, 1, 3, 4, first, room) == CLEATMOW_REFUSAL_ORDER);
+    EXPECT(RESTORE(1, 5, 3, 4, first, room) == CLEATMOW_REFUSAL_DESCRIPTORS);
+    EXPECT(RESTORE(1, 3, 3, 4, first, room) == CLEATMOW_REFUSAL_SHORT);
+    EXPECT(RESTORE(1, 1, 3, 4, first, 35) == CLEATMOW_REFUSAL_ROOM);
+    EXPECT(is_all(points, room, 0xEE));
+
+    EXPECT(RESTORE(1, 1, 3, 4, first, room) == 0);
+    EXPECT(is_point(points, 0, 10) && is_point(points + 9, 0, 11));
+    EXPECT(is_point(points + 18, 0, 9) && is_point(points + 27, 0, 12));
+    EXPECT(is_all(points + 36, room - 36, 0xEE));
+    EXPECT(RESTORE(2, 1, 2, 4, second, room) == 0);
+    EXPECT(is_point(points, 0, 10) && is_point(points + 9, 0, 12));
+    EXPECT(is_point(points + 18, 0, 15) && is_point(points + 27, 0, 18));
+    EXPECT(is_all(points + 36, room - 36, 0xEE));
+
+    /* Every argument in its place: 12 leaves the declared places at 0, and those past them alone. */
+    EXPECT(cleatmow_unpack_spatial(40000, 31, 1, 0, 1, 0, 0, 0, 0, 40000, 0, 2, 4, beyond, sizeof beyond, points, room)
+        == CLEATMOW_REFUSAL_BEYOND);
+    EXPECT(is_all(points, room - 3, 0) && is_all(points + room - 3, 3, 0xEE));
+    return 0;
+}
+
+static int run_length(void) {
     const uint8_t good[] = {0x3C, 0xB5}, repeat[] = {0xC3, 0xB5}, three[] = {0, 3}, five[] = {0, 5};
-    uint8_t levels[10 * CLEATMOW_LEVEL_OCTETS + 3], untouched[sizeof levels];
+    uint8_t levels[10 * CLEATMOW_LEVEL_OCTETS + 3];
     size_t i;
     memset(levels, 0xEE, sizeof levels);
-    memset(untouched, 0xEE, sizeof untouched);
 
     EXPECT(cleatmow_run_length(4, 16, 10, good, 2, levels, sizeof levels) == CLEATMOW_REFUSAL_WIDTH);
     EXPECT(cleatmow_run_length(4, 9, 10, repeat, 2, levels, sizeof levels) == CLEATMOW_REFUSAL_REPEAT);
     EXPECT(cleatmow_run_length(4, 9, 9, good, 2, levels, sizeof levels) == CLEATMOW_REFUSAL_POINTS);
     EXPECT(cleatmow_run_length(4, 9, 10, good, 2, levels, 19) == CLEATMOW_REFUSAL_ROOM);
-    EXPECT(memcmp(levels, untouched, sizeof levels) == 0);
+    EXPECT(is_all(levels, sizeof levels, 0xEE));
 
     EXPECT(cleatmow_run_length(4, 9, 10, good, 2, levels, sizeof levels) == 0);
     for (i = 0; i < 9; i++) EXPECT(memcmp(levels + 2 * i, three, CLEATMOW_LEVEL_OCTETS) == 0);
     EXPECT(memcmp(levels + 18, five, CLEATMOW_LEVEL_OCTETS) == 0);
-    EXPECT(memcmp(levels + 20, untouched, 3) == 0);
+    EXPECT(is_all(levels + 20, 3, 0xEE));
 
     /* An empty payload and an empty buffer, as null pointers. */
     EXPECT(cleatmow_run_length(4, 9, 0, NULL, 0, NULL, 0) == 0);
     EXPECT(cleatmow_run_length(4, 9, 1, NULL, 0, NULL, 0) == CLEATMOW_REFUSAL_POINTS);
     EXPECT(cleatmow_run_length(4, 9, 10, good, 2, NULL, 0) == CLEATMOW_REFUSAL_ROOM);
     return 0;
+}
+
+int main(void) {
+    int line = constants();
+    if (line == 0) line = unpack_complex();
+    if (line == 0) line = unpack_spatial();
+    if (line == 0) line = run_length();
+    return line;
 }

@@ -2,18 +2,22 @@
 
 mod support;
 
-use cleatmow::{run_length, Refusal};
+use cleatmow::{run_length, Point, Refusal};
 use std::collections::HashSet;
-use support::others::{maps, Map, Point, LINES};
+use support::model::{self, Input};
+use support::others::{maps, Map, LINES};
 
-/// Calls with every map of a template, of which the file must have so many, and holds the answers to the file's.
+/// Unpacks every map of a template, of which the file must have so many, and holds the answers to the file's.
 fn hold(template: u32, count: usize, unpack: fn(&Map) -> Result<Vec<Point>, Refusal>) {
     let listed = LINES.matches(&format!(" t={template} ")).count();
     let mut run = 0;
     for map in maps().iter().filter(|map| map.template == template) {
         let (id, answer) = (&map.id, unpack(map));
         match (&answer, map.refusal) {
-            (Ok(points), None) => assert!(map.has(points), "{id}: other points"),
+            (Ok(points), None) => {
+                assert_eq!(points.len(), map.section5.declared() as usize, "{id}");
+                assert!(map.has(points), "{id}: other points");
+            }
             _ => assert_eq!(answer.map(|points| points.len()).err(), map.refusal, "{id}"),
         }
         run += 1;
@@ -21,12 +25,49 @@ fn hold(template: u32, count: usize, unpack: fn(&Map) -> Result<Vec<Point>, Refu
     assert_eq!((run, listed), (count, count), "maps run and maps in the file");
 }
 
+fn input(map: &Map) -> Input {
+    Input {
+        template: map.section5.template(),
+        differences: (map.template == 3).then(|| map.section5.differences()),
+        declared: map.section5.declared(),
+        payload: map.payload.clone(),
+    }
+}
+
+#[test]
+fn maps_under_5_2() {
+    hold(2, 49, |map| input(map).points());
+}
+
+#[test]
+fn maps_under_5_3() {
+    hold(3, 49, |map| input(map).points());
+}
+
+/// The model that other tests hold the calls to reads these maps as their readers do.
+#[test]
+fn the_model_agrees() {
+    let unpack: fn(&Map) -> Result<Vec<Point>, Refusal> = |map| {
+        let points = model::points(&input(map)).map_err(|number| Refusal::from_number(number).unwrap())?;
+        Ok(points
+            .into_iter()
+            .map(|point| match point {
+                (0, number) => Point::Number(number as i64),
+                (1, _) => Point::Missing1,
+                _ => Point::Missing2,
+            })
+            .collect())
+    };
+    hold(2, 49, unpack);
+    hold(3, 49, unpack);
+}
+
 #[test]
 fn run_length_maps() {
     hold(200, 30, |map| {
-        let (bits, max_level) = (map.number(12..=12) as u8, map.number(13..=14) as u16);
-        let levels = run_length(bits, max_level, map.declared(), &map.payload)?;
-        Ok(levels.into_iter().map(|level| (0, i64::from(level))).collect())
+        let (bits, max_level) = (map.section5.number(12..=12) as u8, map.section5.number(13..=14) as u16);
+        let levels = run_length(bits, max_level, map.section5.declared(), &map.payload)?;
+        Ok(levels.into_iter().map(|level| Point::Number(i64::from(level))).collect())
     });
 }
 
@@ -40,36 +81,54 @@ fn every_line_is_whole() {
 /// A reader of lines that takes anything would hold nothing.
 #[test]
 fn malformed_lines_are_told() {
-    let good = LINES.lines().find(|line| line.starts_with("id=edge-rl-doc-1 ")).unwrap();
-    assert!(Map::from_line(good).is_some());
-    for (part, damaged) in [
-        ("id=edge-rl-doc-1 ", ""),
-        ("id=edge-rl-doc-1", "id="),
-        (" t=200", " t=201"),
-        (" t=200", " t=3"),
-        (" doc=same", ""),
-        (" doc=same", " doc=refused"),
-        (" doc=same", " doc=refused-0"),
-        (" doc=same", " doc=refused-14"),
-        ("s5=00000023", "s5=00000024"),
-        ("s5=0000002305", "s5=0000002307"),
-        ("s5=00000023050000000a", "s5=00000023050000000b"),
-        ("s5=00000023", "s5=00000023 "),
-        ("pay=3cb5", "pay=3cb"),
-        ("pay=3cb5", "pay=3cbg"),
-        ("pay=3cb5", "pay="),
-        ("sha=a4", "sha=a5"),
-        ("sha=a4", "sha="),
-        ("list=3*9,5", "list=3*8,5"),
-        ("list=3*9,5", "list=3*9,6"),
-        ("list=3*9,5", "list=3*9,M"),
-        ("list=3*9,5", "list=3*9,5,"),
-        ("list=3*9,5", "list=3*9,5,4*0"),
-        ("list=3*9,5", "list="),
-        ("list=3*9,5", "list=3*9,5 "),
-    ] {
-        assert!(good.contains(part), "{part}");
-        let line = good.replace(part, damaged);
-        assert!(Map::from_line(&line).is_none(), "{line}");
+    fn told(id: &str, damages: &[(&str, &str)]) {
+        let good = LINES.lines().find(|line| line.starts_with(&format!("id={id} "))).unwrap();
+        assert!(Map::from_line(good).is_some());
+        for (part, damaged) in damages {
+            assert!(good.contains(part), "{part}");
+            let line = good.replace(part, damaged);
+            assert!(Map::from_line(&line).is_none(), "{line}");
+        }
     }
+    told(
+        "edge-rl-doc-1",
+        &[
+            ("id=edge-rl-doc-1 ", ""),
+            ("id=edge-rl-doc-1", "id="),
+            (" t=200", " t=201"),
+            (" t=200", " t=3"),
+            (" doc=same", ""),
+            (" doc=same", " doc=refused"),
+            (" doc=same", " doc=refused-0"),
+            (" doc=same", " doc=refused-14"),
+            ("s5=00000023", "s5=00000024"),
+            ("s5=0000002305", "s5=0000002307"),
+            ("s5=00000023050000000a", "s5=00000023050000000b"),
+            ("s5=00000023", "s5=00000023 "),
+            ("pay=3cb5", "pay=3cb"),
+            ("pay=3cb5", "pay=3cbg"),
+            ("pay=3cb5", "pay="),
+            ("sha=a4", "sha=a5"),
+            ("sha=a4", "sha="),
+            ("list=3*9,5", "list=3*8,5"),
+            ("list=3*9,5", "list=3*9,6"),
+            ("list=3*9,5", "list=3*9,M"),
+            ("list=3*9,5", "list=3*9,5,"),
+            ("list=3*9,5", "list=3*9,5,4*0"),
+            ("list=3*9,5", "list="),
+            ("list=3*9,5", "list=3*9,5 "),
+        ],
+    );
+    told(
+        "g2c-down-4-t2-m2",
+        &[
+            (" t=2", " t=3"),
+            ("s5=0000002f0500000004", "s5=000000300500000004"),
+            ("s5=0000002f0500000004", "s5=0000002f0500000005"),
+            ("0000000400 pay", "000000040000 pay"),
+            ("list=S,5,0,M", "list=M,5,0,M"),
+            ("list=S,5,0,M", "list=S,5,M"),
+        ],
+    );
+    told("edge-o1-one-number-m2", &[(" t=3", " t=2"), ("0003000000", "0002000000"), ("list=M*2,9,M", "list=M*2,8,M")]);
 }

@@ -1,6 +1,6 @@
 //! The refusals' numbers and sentences, and the constants that the C header repeats.
 
-use cleatmow::{Refusal, LEVEL_OCTETS, MOST_POINTS};
+use cleatmow::{Refusal, LEVEL_OCTETS, MOST_POINTS, POINT_OCTETS};
 use std::collections::HashSet;
 use std::error::Error;
 
@@ -49,5 +49,6 @@ fn the_header_says_the_same() {
         assert!(has(format!("{name} = {number}")), "{name}");
     }
     assert!(has(format!("#define CLEATMOW_MOST_POINTS {MOST_POINTS}")));
+    assert!(has(format!("#define CLEATMOW_POINT_OCTETS {POINT_OCTETS}")));
     assert!(has(format!("#define CLEATMOW_LEVEL_OCTETS {LEVEL_OCTETS}")));
 }

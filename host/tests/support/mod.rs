@@ -1,4 +1,8 @@
-//! What tests share.
+//! What tests share. Each file of tests uses a part of it.
 
+#![allow(dead_code)]
+
+pub mod model;
 pub mod others;
+pub mod section5;
 pub mod sha256;

@@ -1,14 +1,12 @@
 //! The maps of samples/others.txt. The head of that file says how a line goes.
 
+use super::model::octets_of;
+use super::section5::Section5;
 use super::sha256::sha256;
-use cleatmow::Refusal;
-use std::ops::RangeInclusive;
+use cleatmow::{Point, Refusal};
 
 /// The file, line by line.
 pub const LINES: &str = include_str!("../../../samples/others.txt");
-
-/// A mark (0 number, 1, 2) and a number, which is 0 where the mark is not.
-pub type Point = (u8, i64);
 
 /// One map.
 #[derive(Debug)]
@@ -18,7 +16,7 @@ pub struct Map {
     pub template: u32,
     /// What document 01 does with it, where that is a refusal. Otherwise it gives the points.
     pub refusal: Option<Refusal>,
-    section5: Vec<u8>,
+    pub section5: Section5,
     pub payload: Vec<u8>,
     digest: Vec<u8>,
     /// What the other readers answer, or none where only the digest stands in the file.
@@ -43,7 +41,7 @@ impl Map {
                 "same" => None,
                 refused => Some(Refusal::from_number(refused.strip_prefix("refused-")?.parse().ok()?)?),
             },
-            section5: octets(value("s5")?)?,
+            section5: Section5::from_octets(octets(value("s5")?)?)?,
             payload: match value("pay")? {
                 "-" => Vec::new(),
                 hex => octets(hex)?,
@@ -54,23 +52,11 @@ impl Map {
                 list => Some(points(list)?),
             },
         };
-        let known = [2, 3, 200].contains(&map.template);
-        let header = map.section5.len() >= 11
-            && (map.number(1..=4), map.number(5..=5), map.number(10..=11))
-                == (map.section5.len() as u32, 5, map.template);
-        let listed = |points: &Vec<Point>| points.len() == map.declared() as usize && map.digest == digest(points);
+        let agreed = map.section5.template_number() == map.template;
+        let listed =
+            |points: &Vec<Point>| points.len() == map.section5.declared() as usize && map.digest == digest(points);
         let whole = words.next().is_none() && !map.id.is_empty() && map.digest.len() == 32;
-        (known && header && whole && map.points.as_ref().is_none_or(listed)).then_some(map)
-    }
-
-    /// The number in these octets of Section 5, which are counted from 1.
-    pub fn number(&self, octets: RangeInclusive<usize>) -> u32 {
-        octets.fold(0, |number, octet| number << 8 | u32::from(self.section5[octet - 1]))
-    }
-
-    /// The declared count of points.
-    pub fn declared(&self) -> u32 {
-        self.number(6..=9)
+        (agreed && whole && map.points.as_ref().is_none_or(listed)).then_some(map)
     }
 
     /// Whether these are the points that the other readers answer.
@@ -79,11 +65,9 @@ impl Map {
     }
 }
 
-/// Over nine octets a point: the mark, then the number, big-endian.
+/// Over nine octets a point.
 fn digest(points: &[Point]) -> [u8; 32] {
-    let octets: Vec<u8> =
-        points.iter().flat_map(|(mark, number)| [&[*mark][..], &number.to_be_bytes()].concat()).collect();
-    sha256(&octets)
+    sha256(&octets_of(points))
 }
 
 fn octets(hex: &str) -> Option<Vec<u8>> {
@@ -98,9 +82,9 @@ fn points(list: &str) -> Option<Vec<Point>> {
     for word in list.split(',') {
         let (point, repeats) = word.split_once('*').unwrap_or((word, "1"));
         let point = match point {
-            "M" => (1, 0),
-            "S" => (2, 0),
-            number => (0, number.parse().ok()?),
+            "M" => Point::Missing1,
+            "S" => Point::Missing2,
+            number => Point::Number(number.parse().ok()?),
         };
         let repeats: usize =
             repeats.parse().ok().filter(|repeats| (1..=cleatmow::MOST_POINTS as usize).contains(repeats))?;

@@ -1,0 +1,162 @@
+//! Unpacking under templates 5.2 and 5.3.
+
+use crate::{ffi, lent, Refusal};
+
+/// The numbers of template 5.2, in Section 5's order.
+#[derive(Clone, Copy, Debug, PartialEq, Eq)]
+pub struct Template {
+    /// The bits of a group reference: up to 31. Octet 20 of Section 5.
+    pub number_width: u8,
+    /// The splitting method: 1. Octet 22.
+    pub splitting: u8,
+    /// Missing management: 0, 1 or 2. Octet 23.
+    pub missing: u8,
+    /// The group count: 1 to 4,194,304. Octets 32 to 35.
+    pub groups: u32,
+    /// What is added to each width code. Octet 36.
+    pub width_reference: u8,
+    /// The bits of a width code: up to 32. Octet 37.
+    pub width_bits: u8,
+    /// What is added to each length. Octets 38 to 41.
+    pub length_reference: u32,
+    /// What each length code is multiplied by. Octet 42.
+    pub length_increment: u8,
+    /// The length of the last group. Octets 43 to 46.
+    pub last_length: u32,
+    /// The bits of a length code: up to 32. Octet 47.
+    pub length_bits: u8,
+}
+
+/// The two numbers that template 5.3 has besides.
+#[derive(Clone, Copy, Debug, PartialEq, Eq)]
+pub struct Differences {
+    /// The differencing order: 1 or 2. Octet 48 of Section 5.
+    pub order: u8,
+    /// The octets of each first value and of the overall minimum: 1 to 4. Octet 49.
+    pub descriptor_octets: u8,
+}
+
+/// A point of a map.
+#[derive(Clone, Copy, Debug, PartialEq, Eq)]
+pub enum Point {
+    /// The number at this point, up to 2^60 either way.
+    Number(i64),
+    /// Missing 1.
+    Missing1,
+    /// Missing 2.
+    Missing2,
+}
+
+/// The size of a point in a lent buffer: nine octets, the mark (0 number, 1, 2) and then the number, big-endian two's
+/// complement. A missing point holds number 0.
+pub const POINT_OCTETS: usize = 9;
+
+impl Point {
+    fn from_octets(octets: [u8; POINT_OCTETS]) -> Point {
+        let [mark, number @ ..] = octets;
+        match mark {
+            0 => Point::Number(i64::from_be_bytes(number)),
+            1 => Point::Missing1,
+            2 => Point::Missing2,
+            _ => panic!("a point with mark {mark}: no call of Cleatmow has filled these octets"),
+        }
+    }
+}
+
+/// The points of a map under template 5.2.
+///
+/// `declared` is how many points the map is declared to have; `payload` is Section 7 after its five-octet header.
+///
+/// # Errors
+///
+/// [`Refusal::Splitting`], [`Refusal::Management`], [`Refusal::GroupCount`], [`Refusal::Width`], [`Refusal::Short`] for
+/// the group fields, [`Refusal::GroupSize`], [`Refusal::Short`] for the values, and [`Refusal::Points`], tested in this
+/// order.
+pub fn unpack_complex(template: &Template, declared: u32, payload: &[u8]) -> Result<Vec<Point>, Refusal> {
+    let mut points = lent_points(declared);
+    unpack_complex_into(template, declared, payload, &mut points)?;
+    Ok(points_in(&points).collect())
+}
+
+/// The points of a map under template 5.2, in octets that the caller lends.
+///
+/// On success the points stand at the front of `points`, [`POINT_OCTETS`] each ([`points_in`] reads them); the octets
+/// past them are unchanged, and so is all of `points` on a refusal. The other arguments are those of
+/// [`unpack_complex`].
+///
+/// # Errors
+///
+/// [`Refusal::Splitting`], [`Refusal::Management`], [`Refusal::GroupCount`], [`Refusal::Width`], [`Refusal::Short`] for
+/// the group fields, [`Refusal::GroupSize`], [`Refusal::Short`] for the values, [`Refusal::Points`] and
+/// [`Refusal::Room`], tested in this order.
+pub fn unpack_complex_into(
+    template: &Template,
+    declared: u32,
+    payload: &[u8],
+    points: &mut [u8],
+) -> Result<(), Refusal> {
+    Refusal::answered(ffi::unpack_complex(template, declared, payload, points))
+}
+
+/// The points of a map under template 5.3, restored from their differences.
+///
+/// `declared` is how many points the map is declared to have; `payload` is Section 7 after its five-octet header.
+///
+/// # Errors
+///
+/// [`Refusal::Order`], [`Refusal::Splitting`], [`Refusal::Management`], [`Refusal::Descriptors`], [`Refusal::Short`] for
+/// the descriptors, [`Refusal::GroupCount`], [`Refusal::Width`], [`Refusal::Short`] for the group fields,
+/// [`Refusal::GroupSize`], [`Refusal::Short`] for the values, [`Refusal::Points`] and [`Refusal::Beyond`], tested in
+/// this order.
+pub fn unpack_spatial(
+    template: &Template,
+    differences: &Differences,
+    declared: u32,
+    payload: &[u8],
+) -> Result<Vec<Point>, Refusal> {
+    let mut points = lent_points(declared);
+    unpack_spatial_into(template, differences, declared, payload, &mut points)?;
+    Ok(points_in(&points).collect())
+}
+
+/// The points of a map under template 5.3, in octets that the caller lends.
+///
+/// On success the points stand at the front of `points`, [`POINT_OCTETS`] each ([`points_in`] reads them); the octets
+/// past them are unchanged. A refusal changes nothing, but for [`Refusal::Beyond`], which leaves number 0 and mark 0 in
+/// the declared places. They look like points and are none: use `points` after success only. The other arguments are
+/// those of [`unpack_spatial`].
+///
+/// # Errors
+///
+/// [`Refusal::Order`], [`Refusal::Splitting`], [`Refusal::Management`], [`Refusal::Descriptors`], [`Refusal::Short`] for
+/// the descriptors, [`Refusal::GroupCount`], [`Refusal::Width`], [`Refusal::Short`] for the group fields,
+/// [`Refusal::GroupSize`], [`Refusal::Short`] for the values, [`Refusal::Points`], [`Refusal::Room`] and
+/// [`Refusal::Beyond`], tested in this order.
+pub fn unpack_spatial_into(
+    template: &Template,
+    differences: &Differences,
+    declared: u32,
+    payload: &[u8],
+    points: &mut [u8],
+) -> Result<(), Refusal> {
+    Refusal::answered(ffi::unpack_spatial(template, differences, declared, payload, points))
+}
+
+/// The points that stand in a lent buffer, [`POINT_OCTETS`] each.
+///
+/// Every whole point of `octets` is read, and spare octets short of one are not. Where more was lent than the declared
+/// count takes, hand over the front alone: `&points[..declared as usize * POINT_OCTETS]`. Where the mark is 1 or 2, the
+/// number is not looked at.
+///
+/// # Panics
+///
+/// The iterator panics at a point whose mark is not 0, 1 or 2. Such octets were not filled by a call, and showing them
+/// as a number, or leaving them out, would hide that.
+pub fn points_in(octets: &[u8]) -> impl Iterator<Item = Point> + '_ {
+    octets.chunks_exact(POINT_OCTETS).map(|octets| Point::from_octets(octets.try_into().expect("nine octets")))
+}
+
+/// Octets to lend for a declared count of points.
+fn lent_points(declared: u32) -> Vec<u8> {
+    vec![0; lent(declared) * POINT_OCTETS]
+}

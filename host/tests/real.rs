@@ -1,0 +1,119 @@
+//! Three maps of a weather service (samples/README.md says what they are), through the C calls.
+
+mod support;
+
+use cleatmow::{points_in, Point, POINT_OCTETS};
+use support::model::Input;
+use support::section5::Section5;
+use support::sha256::sha256;
+
+/// A map, and what the two tables of samples/README.md say of it.
+struct Map {
+    name: &'static str,
+    section5: &'static [u8],
+    section7: &'static [u8],
+    /// 2 or 3.
+    template: u32,
+    /// Order and descriptor octets, or none under 5.2.
+    differences: Option<(u8, u8)>,
+    missing_management: u8,
+    groups: u32,
+    points: u32,
+    missing: usize,
+    greatest: i64,
+    digest: &'static str,
+}
+
+const MAPS: [Map; 3] = [
+    Map {
+        name: "gfs-gust-144x73",
+        section5: include_bytes!("../../samples/gfs-gust-144x73.s5"),
+        section7: include_bytes!("../../samples/gfs-gust-144x73.s7"),
+        template: 3,
+        differences: Some((1, 2)),
+        missing_management: 0,
+        groups: 785,
+        points: 144 * 73,
+        missing: 0,
+        greatest: 380,
+        digest: "c4356056e3533fa8be55d04f21b4a1c8f851bc713143c3a20d48421a2d7a6812",
+    },
+    Map {
+        name: "ndfd-puerto-rico-339x224",
+        section5: include_bytes!("../../samples/ndfd-puerto-rico-339x224.s5"),
+        section7: include_bytes!("../../samples/ndfd-puerto-rico-339x224.s7"),
+        template: 3,
+        differences: Some((2, 1)),
+        missing_management: 1,
+        groups: 514,
+        points: 339 * 224,
+        missing: 406,
+        greatest: 127,
+        digest: "20bcfaf68967752dc9fb908e512f504934b2f8d21615109297298329dee5fdd8",
+    },
+    Map {
+        name: "ndfd-conus-1073x689",
+        section5: include_bytes!("../../samples/ndfd-conus-1073x689.s5"),
+        section7: include_bytes!("../../samples/ndfd-conus-1073x689.s7"),
+        template: 2,
+        differences: None,
+        missing_management: 1,
+        groups: 22_011,
+        points: 1_073 * 689,
+        missing: 371_039,
+        greatest: 439,
+        digest: "2af3696b4418d2f67ea973bee19e4568d1c4d4fb0decc8d22bacb84113695e99",
+    },
+];
+
+impl Map {
+    /// What a call is given, from both sections. Section 7 says its length and its number, and then has the payload.
+    fn input(&self) -> Input {
+        let section5 = Section5::from_octets(self.section5.to_vec()).expect(self.name);
+        let (header, payload) = self.section7.split_at(5);
+        assert_eq!(header, [&(self.section7.len() as u32).to_be_bytes()[..], &[7]].concat(), "{}", self.name);
+        assert_eq!(section5.template_number(), self.template, "{}", self.name);
+        Input {
+            template: section5.template(),
+            differences: (self.template == 3).then(|| section5.differences()),
+            declared: section5.declared(),
+            payload: payload.to_vec(),
+        }
+    }
+}
+
+#[test]
+fn template_numbers_are_the_tables() {
+    for map in MAPS {
+        let input = map.input();
+        let read = input.differences.map(|differences| (differences.order, differences.descriptor_octets));
+        assert_eq!(read, map.differences, "{}", map.name);
+        let read = (input.template.missing, input.template.groups, input.declared);
+        assert_eq!(read, (map.missing_management, map.groups, map.points), "{}", map.name);
+    }
+}
+
+#[test]
+fn points_are_the_tables() {
+    for map in MAPS {
+        let input = map.input();
+        let mut octets = vec![0xEE; map.points as usize * POINT_OCTETS];
+        assert_eq!(input.call(&mut octets), 0, "{}", map.name);
+        let digest: String = sha256(&octets).iter().map(|octet| format!("{octet:02x}")).collect();
+        assert_eq!(digest, map.digest, "{}", map.name);
+
+        let points = input.points().unwrap();
+        assert!(points_in(&octets).eq(points.iter().copied()), "{}", map.name);
+        let mut numbers = Vec::new();
+        for point in &points {
+            match point {
+                Point::Number(number) => numbers.push(*number),
+                Point::Missing1 => {}
+                Point::Missing2 => panic!("{}: missing 2 under management {}", map.name, map.missing_management),
+            }
+        }
+        assert_eq!(points.len(), map.points as usize, "{}", map.name);
+        assert_eq!(points.len() - numbers.len(), map.missing, "{}", map.name);
+        assert_eq!((numbers.iter().min(), numbers.iter().max()), (Some(&0), Some(&map.greatest)), "{}", map.name);
+    }
+}
