@@ -38,6 +38,7 @@ mod doors {
 
 pub mod dice;
 pub mod runs;
+pub mod unpacking;
 
 pub use cleatmow::{Differences, Point, Template};
 
