@@ -385,6 +385,48 @@ impl Input {
     }
 }
 
+impl Input {
+    /// Another octet of the payload, a payload cut short or made longer, or another template number. What is declared
+    /// stays.
+    pub fn damage(&mut self, dice: &mut Dice) {
+        let place = dice.below(self.payload.len() as u64 + 1) as usize;
+        match (dice.below(5), self.payload.get_mut(place)) {
+            (0 | 1, Some(octet)) => *octet ^= 1 << dice.below(8),
+            (2, Some(octet)) => *octet = dice.number() as u8,
+            (3, _) if dice.once_in(2) => self.payload.truncate(place),
+            (3, _) => self.payload.extend(dice.octets(2)),
+            _ => self.damage_number(dice),
+        }
+    }
+
+    fn damage_number(&mut self, dice: &mut Dice) {
+        let octet = |dice: &mut Dice, number: &mut u8| {
+            let any = dice.number() as u8;
+            *number = dice.one_of(&[number.wrapping_add(1), number.wrapping_sub(1), 31, 32, 33, any % 34, any]);
+        };
+        let long = |dice: &mut Dice, number: &mut u32| {
+            let any = dice.number() as u32;
+            let twice = number.wrapping_mul(2);
+            *number = dice.one_of(&[number.wrapping_add(1), number.wrapping_sub(1), twice, any % 8, any, u32::MAX]);
+        };
+        let template = &mut self.template;
+        match (dice.below(12), &mut self.differences) {
+            (0, _) => octet(dice, &mut template.number_width),
+            (1, _) => octet(dice, &mut template.splitting),
+            (2, _) => octet(dice, &mut template.missing),
+            (3, _) => long(dice, &mut template.groups),
+            (4, _) => octet(dice, &mut template.width_reference),
+            (5, _) => octet(dice, &mut template.width_bits),
+            (6, _) => long(dice, &mut template.length_reference),
+            (7, _) => octet(dice, &mut template.length_increment),
+            (8, _) => long(dice, &mut template.last_length),
+            (10, Some(differences)) => differences.order = dice.below(5) as u8,
+            (11, Some(differences)) => differences.descriptor_octets = dice.below(7) as u8,
+            _ => octet(dice, &mut template.length_bits),
+        }
+    }
+}
+
 /// A number of this width: all ones or one less half of the time, and zeros at times.
 fn extreme(dice: &mut Dice, width: u64) -> u64 {
     let greatest = (1_u64 << width) - 1;

@@ -340,7 +340,7 @@ impl Comparison {
             self.about_the_count(good.clone());
             for _ in 0..4 {
                 let mut input = good.clone();
-                self.damage(&mut input);
+                input.damage(&mut self.dice);
                 // Most are declared anew, so that the points of a map with another count are looked at too.
                 let count = input.count();
                 if (1..MANY_POINTS).contains(&count) && !self.dice.once_in(8) {
@@ -349,51 +349,6 @@ impl Comparison {
                 // Damage can make a map of millions, which takes long: a few are enough.
                 if count < MANY_POINTS || self.dice.once_in(20) {
                     self.one(input);
-                }
-            }
-        }
-    }
-
-    /// Another octet of the payload, a payload cut short or made longer, or another template number.
-    fn damage(&mut self, input: &mut Input) {
-        let payload = &mut input.payload;
-        let place = self.dice.below(payload.len() as u64 + 1) as usize;
-        match (self.dice.below(5), payload.get_mut(place)) {
-            (0 | 1, Some(octet)) => *octet ^= 1 << self.dice.below(8),
-            (2, Some(octet)) => *octet = self.dice.number() as u8,
-            (3, _) if self.dice.once_in(2) => payload.truncate(place),
-            (3, _) => payload.extend(self.dice.octets(2)),
-            _ => self.damage_number(input),
-        }
-    }
-
-    fn damage_number(&mut self, input: &mut Input) {
-        let Template { groups, length_reference, last_length, .. } = input.template;
-        let octet = |dice: &mut Dice, number: u8| {
-            let any = dice.number() as u8;
-            dice.one_of(&[number.wrapping_add(1), number.wrapping_sub(1), 31, 32, 33, any % 34, any])
-        };
-        let long = |dice: &mut Dice, number: u32| {
-            let any = dice.number() as u32;
-            let near = [number.wrapping_add(1), number.wrapping_sub(1), number.wrapping_mul(2), any % 8];
-            dice.one_of(&[near[0], near[1], near[2], near[3], any, u32::MAX])
-        };
-        let (dice, template) = (&mut self.dice, &mut input.template);
-        match dice.below(if input.differences.is_some() { 12 } else { 10 }) {
-            0 => template.number_width = octet(dice, template.number_width),
-            1 => template.splitting = octet(dice, template.splitting),
-            2 => template.missing = octet(dice, template.missing),
-            3 => template.groups = long(dice, groups),
-            4 => template.width_reference = octet(dice, template.width_reference),
-            5 => template.width_bits = octet(dice, template.width_bits),
-            6 => template.length_reference = long(dice, length_reference),
-            7 => template.length_increment = octet(dice, template.length_increment),
-            8 => template.last_length = long(dice, last_length),
-            9 => template.length_bits = octet(dice, template.length_bits),
-            change => {
-                if let Some(differences) = &mut input.differences {
-                    let number = if change == 10 { &mut differences.order } else { &mut differences.descriptor_octets };
-                    *number = octet(dice, *number % 5) % 6;
                 }
             }
         }
