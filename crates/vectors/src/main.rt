@@ -14,6 +14,12 @@ fn small(x: u8) -> usize
     x as usize
 }
 
+fn wide(x: u8) -> u32
+    ensures { λ r. ⌜ r ≡ x ⌝ }
+{
+    x as u32
+}
+
 fn pair(high: u8, low: u8) -> u16
     ensures { λ r. ⌜ r ≡ high * 256 + low ⌝ }
 {
@@ -116,16 +122,16 @@ fn unpacks_as_frozen(row: &[u8]) -> bool {
     }
     let mut points = [0u8; 36];
     let number = cleatmow::cleatmow_unpack_complex(
-        row[1] as u32,
+        wide(row[1]),
         row[2],
         row[3],
         row[4],
-        row[5] as u32,
+        wide(row[5]),
         row[6],
         row[7],
-        row[8] as u32,
+        wide(row[8]),
         row[9],
-        row[10] as u32,
+        wide(row[10]),
         row[11],
         &row[16..16 + length],
         &mut points,
@@ -147,16 +153,16 @@ fn restores_as_frozen(row: &[u8]) -> bool {
     }
     let mut points = [0u8; 36];
     let number = cleatmow::cleatmow_unpack_spatial(
-        row[1] as u32,
+        wide(row[1]),
         row[2],
         row[3],
         row[4],
-        row[5] as u32,
+        wide(row[5]),
         row[6],
         row[7],
-        row[8] as u32,
+        wide(row[8]),
         row[9],
-        row[10] as u32,
+        wide(row[10]),
         row[11],
         row[12],
         row[13],
