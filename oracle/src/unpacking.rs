@@ -21,6 +21,24 @@ pub struct Input {
     pub room: usize,
 }
 
+/// Template numbers as document 01 lists them: number width; groups; width reference, width bits; length reference,
+/// increment, last, bits. Splitting method is 1 and missing management 0.
+pub fn template(numbers: [u32; 8]) -> Template {
+    let octet = |number: u32| u8::try_from(number).expect("a number of one octet");
+    Template {
+        number_width: octet(numbers[0]),
+        splitting: 1,
+        missing: 0,
+        groups: numbers[1],
+        width_reference: octet(numbers[2]),
+        width_bits: octet(numbers[3]),
+        length_reference: numbers[4],
+        length_increment: octet(numbers[5]),
+        last_length: numbers[6],
+        length_bits: octet(numbers[7]),
+    }
+}
+
 /// What document 01 says of an input.
 pub struct Reading {
     /// All points, or the number of the refusal.

@@ -5,25 +5,8 @@
 use oracle::Outcome::{Answer, Panicked, Refused};
 use oracle::Point::{self, Missing1, Missing2, Number};
 use oracle::runs::Coding;
+use oracle::unpacking::template;
 use oracle::{Differences, Packing, Template};
-
-/// Document 01 lists template numbers as: number width; groups; width reference, width bits; length reference,
-/// increment, last, bits. Management is 0 unless said.
-fn template(numbers: [u32; 8]) -> Template {
-    let octet = |number: u32| u8::try_from(number).unwrap();
-    Template {
-        number_width: octet(numbers[0]),
-        splitting: 1,
-        missing: 0,
-        groups: numbers[1],
-        width_reference: octet(numbers[2]),
-        width_bits: octet(numbers[3]),
-        length_reference: numbers[4],
-        length_increment: octet(numbers[5]),
-        last_length: numbers[6],
-        length_bits: octet(numbers[7]),
-    }
-}
 
 fn normal(numbers: &[i64]) -> Vec<Point> {
     numbers.iter().map(|&number| Number(number)).collect()

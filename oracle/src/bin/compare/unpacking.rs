@@ -6,7 +6,7 @@ use std::fmt::{self, Display, Formatter};
 use cleatmow::{Differences, MOST_POINTS, POINT_OCTETS, Point, Template, unpack_complex_into, unpack_spatial_into};
 use oracle::Outcome::{Answer, Panicked, Refused};
 use oracle::dice::Dice;
-use oracle::unpacking::{Field, Input, MOST_GROUPS, Reading, Size, octets_of, refusals_for};
+use oracle::unpacking::{Field, Input, MOST_GROUPS, Reading, Size, octets_of, refusals_for, template};
 
 use crate::tally::{Tally, Verdict};
 use crate::words;
@@ -257,28 +257,15 @@ impl Comparison {
                 self.with_octets(template, &[octet]);
             }
         }
-        for (number_width, groups, widths, lengths) in [
-            (0, 1, (3, 0), (0, 0, 5, 0)),
-            (1, 2, (0, 2), (1, 1, 1, 1)),
-            (4, 2, (0, 0), (2, 3, 4, 2)),
-            (7, 1, (5, 0), (0, 0, 1, 3)),
-            (0, 4, (0, 2), (1, 0, 0, 0)),
+        for numbers in [
+            [0, 1, 3, 0, 0, 0, 5, 0],
+            [1, 2, 0, 2, 1, 1, 1, 1],
+            [4, 2, 0, 0, 2, 3, 4, 2],
+            [7, 1, 5, 0, 0, 0, 1, 3],
+            [0, 4, 0, 2, 1, 0, 0, 0],
         ] {
             for missing in 0..=2 {
-                let (width_reference, width_bits) = widths;
-                let (length_reference, length_increment, last_length, length_bits) = lengths;
-                let template = Template {
-                    number_width,
-                    missing,
-                    groups,
-                    width_reference,
-                    width_bits,
-                    length_reference,
-                    length_increment,
-                    last_length,
-                    length_bits,
-                    ..ONE_GROUP
-                };
+                let template = Template { missing, ..template(numbers) };
                 for octets in 0..=u16::MAX {
                     self.with_octets(template, &octets.to_be_bytes());
                 }
@@ -460,15 +447,14 @@ fn small_templates() -> Vec<Template> {
     let mut templates = Vec::new();
     for number_width in 0..=3 {
         for groups in 1..=3 {
-            for (width_reference, width_bits) in [(0, 0), (1, 0), (2, 0), (0, 1), (1, 1), (0, 2)] {
-                for (length_reference, length_increment) in [(0, 0), (1, 0), (0, 1), (1, 2)] {
-                    for (last_length, length_bits) in [(0, 0), (1, 0), (2, 0), (0, 1), (1, 1), (2, 2)] {
-                        for missing in 0..=2 {
-                            let numbers = Template { number_width, groups, missing, ..ONE_GROUP };
-                            let numbers = Template { width_reference, width_bits, ..numbers };
-                            let numbers = Template { length_reference, length_increment, ..numbers };
-                            templates.push(Template { last_length, length_bits, ..numbers });
-                        }
+            for [width_reference, width_bits] in [[0, 0], [1, 0], [2, 0], [0, 1], [1, 1], [0, 2]] {
+                for [length_reference, increment] in [[0, 0], [1, 0], [0, 1], [1, 2]] {
+                    for [last, length_bits] in [[0, 0], [1, 0], [2, 0], [0, 1], [1, 1], [2, 2]] {
+                        let widths = [number_width, groups, width_reference, width_bits];
+                        let lengths = [length_reference, increment, last, length_bits];
+                        let numbers = [widths, lengths].concat();
+                        let numbers = template(numbers.try_into().expect("eight numbers"));
+                        templates.extend((0..=2).map(|missing| Template { missing, ..numbers }));
                     }
                 }
             }
