@@ -69,6 +69,7 @@ pub struct Judge {
 const BEFORE: u8 = 0xa5;
 const GUARD: usize = 16;
 
+/// A damaged map of more points than this is seldom looked at: it takes long.
 const MANY_POINTS: u32 = 50_000;
 
 impl Judge {
@@ -175,6 +176,7 @@ fn compared(name: &'static str, spatial: bool, dice: Dice) -> Tally {
     if spatial {
         comparison.descriptors();
     }
+    comparison.several_refusals();
     comparison.lengths();
     comparison.made();
     comparison.limits();
@@ -297,6 +299,33 @@ impl Comparison {
         }
     }
 
+    /// Each number is one that is refused about once in three times, so that the first of several refusals is looked for.
+    fn several_refusals(&mut self) {
+        self.tally.stage("several refusals", 1_000);
+        for _ in 0..200_000 {
+            let dice = &mut self.dice;
+            let template = Template {
+                number_width: dice.one_of(&[0, 3, 32]),
+                splitting: dice.one_of(&[1, 1, 1, 0]),
+                missing: dice.one_of(&[0, 1, 2, 3]),
+                groups: dice.one_of(&[1, 2, 3, 0]),
+                width_reference: dice.one_of(&[0, 2, 32]),
+                width_bits: dice.one_of(&[0, 1, 2, 33]),
+                length_reference: dice.one_of(&[0, 1, u32::MAX]),
+                length_increment: dice.one_of(&[0, 1]),
+                last_length: dice.one_of(&[0, 1, 9]),
+                length_bits: dice.one_of(&[0, 1, 2, 33]),
+            };
+            let differences = self.spatial.then(|| Differences {
+                order: dice.one_of(&[1, 1, 2, 2, 0, 3]),
+                descriptor_octets: dice.one_of(&[1, 1, 2, 3, 4, 4, 0, 5]),
+            });
+            let octets = dice.one_of(&[0, 1, 2, 4, 8, 16]);
+            let payload = dice.octets(octets);
+            self.about_the_count(Input::with_its_count(template, differences, payload));
+        }
+    }
+
     fn some(&mut self) -> Input {
         let groups = self.dice.one_of(&[1, 2, 4, 9]);
         let length = self.dice.one_of(&[1, 4, 12, 600]);
@@ -333,7 +362,6 @@ impl Comparison {
                 if (1..MANY_POINTS).contains(&count) && !self.dice.once_in(8) {
                     input.declare(count);
                 }
-                // Damage can make a map of millions, which takes long: a few are enough.
                 if count < MANY_POINTS || self.dice.once_in(20) {
                     self.one(input);
                 }
@@ -418,28 +446,36 @@ impl Comparison {
         }
         // Up and beyond, or nearly, and back again: it is beyond at its greatest number alone.
         for steps in (1 << 15) - 4..(1 << 15) + 4 {
-            self.restored([0, 0, 1 << 30 | 1 << 31], [steps, 2 * steps], [0x7fff_ffff, 0]);
+            self.restored([0, 0, 1 << 30 | 1 << 31], [steps, 2 * steps], [0x7fff_fffe, 0]);
         }
     }
 
-    /// Second order: the two first values and the minimum, and two groups of width 0.
+    /// Second order: the two first values and the minimum, and two groups of width 0, before them one of missing points.
     fn restored(&mut self, descriptors: [u64; 3], lengths: [u64; 2], references: [u64; 2]) {
         let mut field = Field::default();
         for descriptor in descriptors {
             field.add(descriptor, 32);
         }
+        field.add(0x7fff_ffff, 31);
         for reference in references {
             field.add(reference, 31);
         }
+        // To the next octet, and three length codes, the last of which is ignored.
+        field.add(0, 3);
+        for length in [self.dice.below(3), lengths[0], 0] {
+            field.add(length, 32);
+        }
         let template = Template {
             number_width: 31,
-            groups: 2,
-            length_reference: lengths[0] as u32,
+            missing: 1,
+            groups: 3,
+            length_increment: 1,
             last_length: lengths[1] as u32,
+            length_bits: 32,
             ..ONE_GROUP
         };
         let differences = Differences { order: 2, descriptor_octets: 4 };
-        self.one(Input::with_its_count(template, Some(differences), field.octets));
+        self.about_the_count(Input::with_its_count(template, Some(differences), field.octets));
     }
 }
 
