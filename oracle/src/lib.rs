@@ -5,7 +5,8 @@
 //! Where the text is not there, `have_text` is not set, there are no doors, and each program says so in one line.
 //!
 //! No door adds a test. What the Rust does not refuse runs: lengths that document 01 refuses may ask for more memory
-//! than there is, which ends the process, and run-length with b 0 never ends. Whoever calls looks first (`runs`).
+//! than there is, which ends the process, and run-length with b 0 never ends. Whoever calls looks first (`runs`,
+//! `unpacking`).
 
 #[cfg(have_text)]
 include!(concat!(env!("OUT_DIR"), "/text/root.rs"));

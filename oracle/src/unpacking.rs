@@ -332,7 +332,7 @@ impl Input {
                 // Half of them small, so that they stay in the meeting.
                 let descriptor = if dice.once_in(2) { dice.below(1 << 7) } else { extreme(dice, width) };
                 let sign = dice.below(2) << (width - 1);
-                field.add(if dice.once_in(2) { descriptor } else { descriptor % (1 << (width - 1)) | sign }, width);
+                field.add(if dice.once_in(2) { descriptor } else { (descriptor % (1 << (width - 1))) | sign }, width);
             }
         }
         for _ in 0..groups {
@@ -466,7 +466,7 @@ pub struct Field {
 impl Field {
     pub fn add(&mut self, number: u64, width: u64) {
         for bit in (0..width).rev() {
-            if self.bits % 8 == 0 {
+            if self.bits.is_multiple_of(8) {
                 self.octets.push(0);
             }
             let last = self.octets.len() - 1;
@@ -477,7 +477,7 @@ impl Field {
 
     /// Goes on to the next octet, over random bits.
     fn pad(&mut self, dice: &mut Dice) {
-        while self.bits % 8 != 0 {
+        while !self.bits.is_multiple_of(8) {
             self.add(dice.below(2), 1);
         }
     }
