@@ -2,7 +2,7 @@
 
 mod support;
 
-use cleatmow::{points_in, Point, POINT_OCTETS};
+use cleatmow::{points_in, Point, Refusal, POINT_OCTETS};
 use support::model::Input;
 use support::section5::Section5;
 use support::sha256::sha256;
@@ -115,5 +115,20 @@ fn points_are_the_tables() {
         assert_eq!(points.len(), map.points as usize, "{}", map.name);
         assert_eq!(points.len() - numbers.len(), map.missing, "{}", map.name);
         assert_eq!((numbers.iter().min(), numbers.iter().max()), (Some(&0), Some(&map.greatest)), "{}", map.name);
+    }
+}
+
+/// A map that was cut off, or whose count is another map's, is refused and not shown.
+#[test]
+fn damaged_maps_are_refused() {
+    for map in MAPS {
+        let whole = map.input();
+        for len in [0, 1, whole.payload.len() / 2, whole.payload.len() - 2] {
+            let cut = Input { payload: whole.payload[..len].to_vec(), ..map.input() };
+            assert_eq!(cut.points(), Err(Refusal::Short), "{}", map.name);
+        }
+        for declared in [0, map.points - 1, map.points + 1] {
+            assert_eq!(Input { declared, ..map.input() }.points(), Err(Refusal::Points), "{}", map.name);
+        }
     }
 }

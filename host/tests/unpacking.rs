@@ -374,6 +374,17 @@ fn sets_of_faults_give_the_first() {
 }
 
 #[test]
+fn the_declared_count_is_exact() {
+    for input in [two_groups(), second_order()] {
+        for declared in (0..=8).chain([MOST_POINTS, MOST_POINTS + 1, MOST_POINTS + 4, 1 << 31, u32::MAX]) {
+            let answer = if declared == 4 { 0 } else { 9 };
+            assert_eq!(compare(&Input { declared, ..input.clone() }, 100), answer, "{declared}");
+        }
+    }
+}
+
+/// The order is literal: 6 comes before 7 for the group fields, and after 7 for the descriptors.
+#[test]
 fn an_empty_payload_without_groups() {
     assert_eq!(complex(template(0, 0, (0, 0), (0, 0, 0, 0)), 0, &[]).points(), refused(6));
     assert_eq!(spatial(1, 1, template(0, 0, (0, 0), (0, 0, 0, 0)), 0, &[]).points(), refused(7));
@@ -442,7 +453,7 @@ fn chain(shift: u64, groups: &[(i64, u32)]) -> Input {
 fn exact(input: &Input) -> (i128, i128, i128) {
     let points = model::points(input).unwrap();
     let numbers = || points.iter().map(|(_, number)| *number);
-    (numbers().min().unwrap(), numbers().max().unwrap(), numbers().last().unwrap())
+    (numbers().min().unwrap(), numbers().max().unwrap(), numbers().next_back().unwrap())
 }
 
 /// "a restored number is beyond 2^60 either way": 2^60 and −2^60 are not beyond, the next numbers are.
@@ -532,8 +543,8 @@ fn missing_points_do_not_advance_restoring() {
     assert_eq!(shown(input(1, 0)), [100, 105, 105, 110, 116, 117, 122, 124, 130, 136, 139, 143, 148, 147, 153]);
 }
 
-/// Missing 1 and 2 in groups of width 0 are told by the reference at the number width, at any width but 0 by the value
-/// at the group's; all four marks stand in one map.
+/// In a group of width 0 a missing point is told by the reference at the number width; in any other, by the value at the
+/// group's width, whatever the reference is.
 #[test]
 fn missing_points_by_width() {
     for number_width in 0..=31_u8 {
@@ -573,28 +584,24 @@ fn missing_points_by_width() {
 /// First values are unsigned, the minimum has a sign bit and a magnitude, and each takes the stated octets.
 #[test]
 fn descriptors_of_every_size() {
-    for octets in 1..=4_u8 {
+    let template = template(0, 1, (2, 0), (0, 0, 3, 0));
+    let input = |order, descriptor_octets, descriptors: &[u64]| {
+        let differences = Differences { order, descriptor_octets };
+        let payload = payload(&template, Some(&differences), descriptors, &[written(0, 0, 0, &[1, 2, 3])], 0);
+        Input { template, differences: Some(differences), declared: 3, payload }
+    };
+    for octets in 1..=4 {
         let (sign, greatest) = (1_u64 << (8 * octets - 1), (1_u64 << (8 * octets)) - 1);
-        for (minimum, meant) in [
-            (0, 0),
-            (1, 1),
-            (sign - 1, sign as i64 - 1),
-            // "minus zero is zero"
-            (sign, 0),
-            (sign + 1, -1),
-            (greatest, 1 - sign as i64),
-        ] {
+        // "minus zero is zero"
+        let minus_zero = (sign, 0);
+        let most = sign as i64 - 1;
+        for (minimum, meant) in [(0, 0), (1, 1), (sign - 1, most), minus_zero, (sign + 1, -1), (greatest, -most)] {
             for first in [0, 1, sign - 1, sign, sign + 1, greatest] {
                 let second = greatest - first / 2;
-                let template = template(0, 1, (2, 0), (0, 0, 3, 0));
-                // Values 1, 2, 3.
-                let values = 0b01_10_11_00;
-                let be = |number: u64| number.to_be_bytes()[8 - usize::from(octets)..].to_vec();
-                let one = [be(first), be(minimum), vec![values]].concat();
-                let (first, second, one) = (first as i64, second, spatial(1, octets, template, 3, &one));
+                let one = input(1, octets, &[first, minimum]);
+                let two = input(2, octets, &[first, second, minimum]);
+                let (first, second) = (first as i64, second as i64);
                 assert_eq!(one.points(), numbers([first, first + 2 + meant, first + 5 + 2 * meant]));
-                let two = [be(first as u64), be(second), be(minimum), vec![values]].concat();
-                let (second, two) = (second as i64, spatial(2, octets, template, 3, &two));
                 assert_eq!(two.points(), numbers([first, second, 3 + meant + 2 * second - first]));
                 assert_eq!((compare_right(&one), compare_right(&two)), (0, 0));
             }
@@ -642,20 +649,17 @@ fn groups_without_points() {
 
     // Seven groups, three points: lengths 0 0 1 0 2 0 0, and the last group's code says 3.
     let some = template(7, 7, (0, 3), (0, 1, 0, 2));
-    let code = |place| [0, 0, 1, 0, 2, 0, 3][place];
-    let groups: Vec<Written> = (0..7)
-        .map(|place| {
-            let width_code = place as u64;
-            written(
-                10 + width_code,
-                width_code,
-                code(place),
-                &vec![width_code; if place < 6 { code(place) } else { 0 } as usize],
-            )
-        })
-        .collect();
+    let groups = [
+        written(10, 0, 0, &[]),
+        written(11, 1, 0, &[]),
+        written(12, 2, 1, &[2]),
+        written(13, 3, 0, &[]),
+        written(14, 4, 2, &[4, 5]),
+        written(15, 5, 0, &[]),
+        written(16, 6, 3, &[]),
+    ];
     let some = complex(some, 3, &payload(&some, None, &[], &groups, 0));
-    assert_eq!(some.points(), numbers([14, 18, 18]));
+    assert_eq!(some.points(), numbers([14, 18, 19]));
     assert_eq!(compare_right(&some), 0);
 }
 
@@ -720,7 +724,7 @@ fn a_huge_last_length() {
             }
         }
     }
-    // Three groups of 2^32 + 4 points, and of as many bits, which must not come round to 4.
+    // Three groups have 2^32 + 4 points together, or as many bits, which must not come round to 4.
     for (width, answer) in [(0, 9), (1, 7)] {
         let template = template(0, 3, (width, 0), (1 << 31, 0, 4, 0));
         assert_eq!(compare(&complex(template, 4, &[0xFF]), 36), answer);

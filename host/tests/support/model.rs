@@ -72,7 +72,7 @@ fn read(input: &Input) -> Result<Read<'_>, u32> {
     }
     let mut start = 0;
     if let Some(Differences { order, descriptor_octets }) = input.differences {
-        if descriptor_octets < 1 || descriptor_octets > 4 {
+        if !(1..=4).contains(&descriptor_octets) {
             return Err(4);
         }
         start = (u128::from(order) + 1) * u128::from(descriptor_octets);

@@ -17,7 +17,7 @@ impl Section5 {
         let whole = match section.template_number() {
             2 => len == 47,
             3 => len == 49,
-            // "M" is octets 13 and 14; the scale of the levels' values, and those values, follow.
+            // M is octets 13 and 14. The count of the levels' values and their scale follow, and then those values.
             200 => len >= 17,
             _ => false,
         };
