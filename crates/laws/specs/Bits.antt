@@ -143,6 +143,28 @@ pub number-there : (octets : List ℕ) (at : ℕ) → ((k : ℕ) → getD octets
     → r ≡ numberOf (bitIn 8 octets) (at * 8) 40
 number-there octets at h e = number-five octets at (refl, h at) (refl, h (at + 1)) (refl, h (at + 2)) (refl, h (at + 3)) (refl, h (at + 4)) e
 
+-- four of them, and eight
+module _ (octets : List ℕ) (at : ℕ) (h : (k : ℕ) → getD octets k 0 < 256) where
+  pub number-four : {r : ℕ} → r ≡ ((getD octets at 0 * 256 + getD octets (at + 1) 0) * 256 + getD octets (at + 2) 0) * 256 + getD octets (at + 3) 0
+      → r ≡ numberOf (bitIn 8 octets) (at * 8) 32
+  number-four e = omega (arith, octet octets at (h at), number-octet octets at 1 (h (at + 1)), number-octet octets at 2 (h (at + 2)), number-octet octets at 3 (h (at + 3)))
+
+  pub number-eight : {r : ℕ}
+      → r ≡ ((((((getD octets at 0 * 256 + getD octets (at + 1) 0) * 256 + getD octets (at + 2) 0) * 256 + getD octets (at + 3) 0) * 256 + getD octets (at + 4) 0) * 256 + getD octets (at + 5) 0) * 256 + getD octets (at + 6) 0) * 256 + getD octets (at + 7) 0
+      → r ≡ numberOf (bitIn 8 octets) (at * 8) 64
+  number-eight e =
+      omega (
+        arith,
+        octet octets at (h at),
+        number-octet octets at 1 (h (at + 1)),
+        number-octet octets at 2 (h (at + 2)),
+        number-octet octets at 3 (h (at + 3)),
+        number-octet octets at 4 (h (at + 4)),
+        number-octet octets at 5 (h (at + 5)),
+        number-octet octets at 6 (h (at + 6)),
+        number-octet octets at 7 (h (at + 7)),
+      )
+
 -- a number that starts at bit s of n whole octets
 pub number-read : (octets : List ℕ) (at s w n : ℕ) → s + w ≤ n * 8
     → numberOf (bitIn 8 octets) (at * 8) (n * 8) / 2 ^ (n * 8 - s - w) % 2 ^ w ≡ numberOf (bitIn 8 octets) (at * 8 + s) w

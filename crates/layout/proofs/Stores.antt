@@ -1,17 +1,20 @@
 -- Storing a number, octet by octet. Assumes nothing.
-use mathlib.Core.Path.{_≡_, refl, ap, _∙_}
+use mathlib.Core.Path.{_≡_, refl, sym, ap, ap₂, _∙_}
 use mathlib.Core.List.{List, [], _∷_, _++_, append-assoc, append-nil, flatMap}
 use Prim.Native.Nat.{ℕ, suc, _+_, _-_, _*_, _/_, _%_, _^_, _≤_, _<_}
+use native.Mathlib.Nat.{div-div-eq-div-mul}
 use native.Mathlib.Numerals.{add-one}
+use lib.Pow.{pow-add}
 use native.Mathlib.Omega.{arith}
 use lib.ListN.{length, set, length-set, length-append}
-use lib.Seq.{sets, set-comm}
+use lib.Seq.{sets, set-comm, length-sets}
+use lib.IntN.{ℤ}
 use Rattle.format.specs.Lists.{listed}
 use Rattle.format.specs.Layout.{bigEndian, inFours, groupNumbers, pointOctets, markOf, heldBy, twosComplement}
 use Rattle.format.specs.declared.DecodedValue.{DecodedValue}
 use Rattle.format.specs.declared.Group.{Group}
 use Rattle.laws.specs.Stores.{sets-append, sets-more, octet-power}
-use Rattle.laws.specs.Lists.{length-listed}
+use Rattle.laws.specs.Lists.{length-listed, listed-ext, listed-add}
 
 -- the first i of the n octets of x are stored
 pub record Storing (octets₀ : List ℕ) (at x n : ℕ) (octets : List ℕ) (i : ℕ) : Type 0 where
@@ -70,8 +73,43 @@ sets-before octets at mark i [] l = refl
 sets-before octets at mark i (x ∷ xs) l =
     sets-before (set octets i x) at mark (suc i) xs (omega arith) ∙ ap (λ (o : List ℕ). sets o (suc i) xs) (set-comm octets i at x mark (λ e. omega arith))
 
-pub point-stored : (octets : List ℕ) (at : ℕ) (point : DecodedValue) {mark number : ℕ} {a : List ℕ}
-    → number ≡ twosComplement (heldBy point) → a ≡ sets octets (at + 1) (bigEndian 8 number) → mark ≡ markOf point
-    → set a at mark ≡ sets octets at (pointOctets point)
-point-stored octets at point {mark} {number} en ea em =
-    rw (← en, ← em, ea, add-one at) (sets-before octets at mark (suc at) (bigEndian 8 number) (omega arith))
+-- a store before another that was made first
+sets-swapped : (octets : List ℕ) (at i : ℕ) (ys xs : List ℕ) → at + length ys ≤ i → sets (sets octets i xs) at ys ≡ sets (sets octets at ys) i xs
+sets-swapped octets at i [] xs l = refl
+sets-swapped octets at i (y ∷ ys) xs l =
+    ap (λ (o : List ℕ). sets o (suc at) ys) (sets-before octets at y i xs (omega arith)) ∙ sets-swapped (set octets at y) (suc at) i ys xs (omega arith)
+
+-- the upper octets of a number, and the lower ones
+halves : (m n x : ℕ) → bigEndian m (x / 256 ^ n) ++ bigEndian n x ≡ bigEndian (m + n) x
+halves m n x =
+    sym
+    (listed-add m n (λ i. x / 256 ^ (m + n - suc i) % 256)
+    ∙ ap₂ (λ (l r : List ℕ). l ++ r)
+    (listed-ext m _ _ (λ i l. upper i l))
+    (listed-ext n _ _ (λ i l. let e : m + n - suc (m + i) ≡ n - suc i = omega arith in rw e)))
+  where
+    upper : (i : ℕ) → i < m → x / 256 ^ (m + n - suc i) % 256 ≡ x / 256 ^ n / 256 ^ (m - suc i) % 256
+    upper i l =
+        let e : m + n - suc i ≡ n + (m - suc i) = omega arith in
+        rw (e, pow-add 256 n (m - suc i), ← div-div-eq-div-mul x (256 ^ n) (256 ^ (m - suc i)))
+
+-- a point's number in two halves, the lower one first, and then its mark
+pub point-stored : (octets : List ℕ) (at : ℕ) (point : DecodedValue) {mark number : ℕ} {a b : List ℕ}
+    → number ≡ twosComplement (heldBy point) → a ≡ sets octets (at + 5) (bigEndian 4 number) → b ≡ sets a (at + 1) (bigEndian 4 (number / 4294967296))
+    → mark ≡ markOf point → set b at mark ≡ sets octets at (pointOctets point)
+point-stored octets at point {mark} {number} {a} {b} en ea eb em =
+    let upper = bigEndian 4 (number / 4294967296) in
+    let lower = bigEndian 4 number in
+    let size : length upper ≡ 4 = length-listed 4 (λ i. number / 4294967296 / 256 ^ (4 - suc i) % 256) in
+    let place : at + 1 + length upper ≡ at + 5 = omega arith in
+    let swapped : b ≡ sets (sets octets (at + 1) upper) (at + 1 + length upper) lower = rw (eb, ea, place) (sets-swapped octets (at + 1) (at + 5) upper lower (omega arith)) in
+    let whole : b ≡ sets octets (at + 1) (bigEndian 8 number) = swapped ∙ sets-append octets (at + 1) upper lower ∙ ap (sets octets (at + 1)) (halves 4 4 number) in
+    rw (← en, ← em, whole, add-one at) (sets-before octets at mark (suc at) (bigEndian 8 number) (omega arith))
+
+-- which leaves as many octets
+pub point-long : (octets : List ℕ) (low high i mark : ℕ) (upper lower : List ℕ) {a b : List ℕ} → a ≡ sets octets low lower → b ≡ sets a high upper → length (set b i mark) ≡ length octets
+point-long octets low high i mark upper lower {a} {b} ea eb =
+    length-set b i mark ∙ ap length eb ∙ length-sets a high upper ∙ ap length ea ∙ length-sets octets low lower
+
+pub signed-stored : (octets : List ℕ) (at : ℕ) (z : ℤ) {number : ℕ} {a : List ℕ} → number ≡ twosComplement z → a ≡ sets octets at (bigEndian 8 number) → a ≡ sets octets at (bigEndian 8 (twosComplement z))
+signed-stored octets at z en ea = rw (← en) ea

@@ -1,7 +1,7 @@
 // Levels, numbers, points and groups as they lie in lent octets, all big-endian, thing after thing from the first octet on.
 ghost use mathlib.Core.Path.{_≡_};
 ghost use Prim.Native.Nat.{_+_, _*_, _<_, _≤_, _^_};
-ghost use lib.ListN.{length};
+ghost use lib.ListN.{length, getD};
 ghost use lib.Seq.{sets};
 ghost use Rattle.format.specs.Bits.{numberAt, fieldOf};
 ghost use Rattle.format.specs.Layout.{bigEndian, inFours, levelSize, levelOctets, pointSize, pointOctets, markOf, heldBy, twosComplement, groupSize, groupNumbers};
@@ -9,7 +9,11 @@ use format::DecodedValue;
 use format::Group;
 use format::OctetPlace;
 
-// A group's four numbers of four octets each.
+// A level takes two octets, a point nine, a group's four numbers four each.
+pub const LEVEL_SIZE: usize = 2;
+
+pub const POINT_SIZE: usize = 9;
+
 pub const GROUP_SIZE: usize = 16;
 
 // Stores x from a place on, in n octets.
@@ -29,14 +33,14 @@ pub fn store_level(octets: &mut [u8], k: usize, level: u16)
     requires { ⌜ (k + 1) * levelSize ≤ length (now octets) ⌝ }
     ensures { λ _. ⌜ now (octets .exit) ≡ sets (now (octets .entry)) (k * levelSize) (levelOctets level) ⌝ }
 {
-    store(octets, k * 2, level as u64, 2);
+    store(octets, k * LEVEL_SIZE, level as u64, 2);
 }
 
 pub fn level_in(octets: &[u8], k: usize) -> u16
     requires { ⌜ (k + 1) * levelSize ≤ length (now octets) ⌝ }
     ensures { λ r. ⌜ r ≡ numberAt (now (octets .entry)) (k * 16) 16 ⌝ }
 {
-    stream::read_in_octet(octets, OctetPlace(k * 2), 0, 16) as u16
+    stream::read_in_octet(octets, OctetPlace(k * LEVEL_SIZE), 0, 16) as u16
 }
 
 // Number k of those that take four octets each.
@@ -110,12 +114,46 @@ fn pattern_of(point: DecodedValue) -> u64
     }
 }
 
-// Point k. The mark goes last: eight octets that are stored in a row become one store of the machine, nine do not.
+// Point k. A packed number's upper half is zero: stored by itself, and last but for the mark, each half is one store of the
+// machine.
 pub fn store_point(octets: &mut [u8], k: usize, point: DecodedValue)
     requires { ⌜ (k + 1) * pointSize ≤ length (now octets) ⌝ }
     ensures { λ _. ⌜ now (octets .exit) ≡ sets (now (octets .entry)) (k * pointSize) (pointOctets point) ⌝ }
 {
-    let at = k * 9;
-    store(octets, at + 1, pattern_of(point), 8);
+    let at = k * POINT_SIZE;
+    let pattern = pattern_of(point);
+    store(octets, at + 5, pattern, 4);
+    store(octets, at + 1, pattern / 4294967296, 4);
     octets[at] = mark_of(point);
+}
+
+// The number of point k, whose mark stays.
+pub fn store_signed(octets: &mut [u8], k: usize, number: i64)
+    requires { ⌜ (k + 1) * pointSize ≤ length (now octets) ⌝ }
+    ensures { λ _. ⌜ now (octets .exit) ≡ sets (now (octets .entry)) (k * pointSize + 1) (bigEndian 8 (twosComplement number)) ⌝ }
+{
+    store(octets, k * POINT_SIZE + 1, twos_complement(number), 8);
+}
+
+pub fn mark_in(octets: &[u8], k: usize) -> u8
+    requires { ⌜ (k + 1) * pointSize ≤ length (now octets) ⌝ }
+    ensures { λ r. ⌜ r ≡ getD (now (octets .entry)) (k * pointSize) 0 ⌝ }
+{
+    octets[k * POINT_SIZE]
+}
+
+// Four octets as one number, the last of them first: read in this order they become one load of the machine.
+fn four(d: u8, c: u8, b: u8, a: u8) -> u32
+    ensures { λ r. ⌜ r ≡ ((a * 256 + b) * 256 + c) * 256 + d ⌝ }
+{
+    (d as u32) + (c as u32) * 256 + (b as u32) * 65536 + (a as u32) * 16777216
+}
+
+// The last four octets of point k's number: all of a packed number, which is below 2^32.
+pub fn packed_in(octets: &[u8], k: usize) -> u32
+    requires { ⌜ (k + 1) * pointSize ≤ length (now octets) ⌝ }
+    ensures { λ r. ⌜ r ≡ numberAt (now (octets .entry)) ((k * pointSize + 5) * 8) 32 ⌝ }
+{
+    let at = k * POINT_SIZE + 5;
+    four(octets[at + 3], octets[at + 2], octets[at + 1], octets[at])
 }

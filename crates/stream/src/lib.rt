@@ -1,6 +1,6 @@
 // Reading bit fields: the cursor by value beside the octets, and the bit reader.
 ghost use mathlib.Core.Path.{_≡_};
-ghost use Prim.Native.Nat.{_+_, _*_, _<_, _≤_, _^_};
+ghost use Prim.Native.Nat.{_+_, _*_, _/_, _<_, _≤_, _^_};
 ghost use lib.ListN.{length, getD};
 ghost use Rattle.format.specs.Lists.{_over_};
 ghost use Rattle.format.specs.Refusals.{left};
@@ -72,6 +72,47 @@ pub fn read_number(octets: &[u8], place: BitPlace, width: usize) -> u32
         places::bit_in_octet(place),
         width,
     )
+}
+
+// Eight octets as one number, the last of them first, as above.
+fn eight(h: u8, g: u8, f: u8, e: u8, d: u8, c: u8, b: u8, a: u8) -> u64
+    ensures { λ r. ⌜ r ≡ ((((((a * 256 + b) * 256 + c) * 256 + d) * 256 + e) * 256 + f) * 256 + g) * 256 + h ⌝ }
+{
+    (h as u64)
+        + (g as u64) * 256
+        + (f as u64) * 65536
+        + (e as u64) * 16777216
+        + (d as u64) * 4294967296
+        + (c as u64) * 1099511627776
+        + (b as u64) * 281474976710656
+        + (a as u64) * 72057594037927936
+}
+
+// Eight octets from a place on, all of which are there.
+fn eight_there(octets: &[u8], at: usize) -> u64
+    requires { ⌜ at + 8 ≤ length (now octets) ⌝ }
+    ensures { λ r. ⌜ r ≡ numberAt (now (octets .entry)) (at * 8) 64 ⌝ }
+{
+    eight(
+        octets[at + 7],
+        octets[at + 6],
+        octets[at + 5],
+        octets[at + 4],
+        octets[at + 3],
+        octets[at + 2],
+        octets[at + 1],
+        octets[at],
+    )
+}
+
+// The number at a place from which eight octets are there: one load of the machine, and nothing is tested.
+pub fn read_there(octets: &[u8], place: BitPlace, width: usize) -> u32
+    requires { ⌜ (place .0 / 8 + 8 ≤ length (now octets)) × (0 < width) × (width ≤ 32) ⌝ }
+    ensures { λ r. ⌜ r ≡ numberAt (now (octets .entry)) (place .0) width ⌝ }
+{
+    let bit = places::bit_in_octet(place);
+    let gathered = eight_there(octets, places::octet_of(place).0);
+    places::cut(gathered, 64 - bit - width, width) as u32
 }
 
 // A place in octets that lie beside it, the width of the numbers from there on, and how many of them are left.

@@ -1,0 +1,55 @@
+-- `layout::packed_in` meets its contract. Assumes nothing.
+use Rattle.laws.specs.Bits.{number-four}
+use native.Mathlib.Omega.{arith}
+use borrow.Author.Needs.{needs}
+use Rattle.layout.proofs.packed_in.Statement.{statement}
+use Rattle.layout.proofs.packed_in.Tie as tie
+
+mul-at : tie.Need-mul-at
+mul-at c = search needs
+
+add-at : tie.Need-add-at
+add-at c = search needs
+
+add-four : tie.Need-add-four
+add-four c = search needs
+
+shared-slice-read-four : tie.Need-shared-slice-read-four
+shared-slice-read-four c = search needs
+
+add-four-2 : tie.Need-add-four-2
+add-four-2 c = search needs
+
+shared-slice-read-four-2 : tie.Need-shared-slice-read-four-2
+shared-slice-read-four-2 c = search needs
+
+add-four-3 : tie.Need-add-four-3
+add-four-3 c = search needs
+
+shared-slice-read-four-3 : tie.Need-shared-slice-read-four-3
+shared-slice-read-four-3 c = search needs
+
+shared-slice-read-four-4 : tie.Need-shared-slice-read-four-4
+shared-slice-read-four-4 c = search needs
+
+four-requires : tie.Need-four-requires
+four-requires c κs = search needs
+
+returns : tie.Need-returns
+returns c = number-four _ _ (λ k. omega (arith, c .before .shared-slice-known5 .given k)) (c .four .ensures)
+
+pub packed-in-spec : {M : Type 1} → statement M
+packed-in-spec =
+    tie.close
+    (tie.spec
+    mul-at
+    add-at
+    add-four
+    shared-slice-read-four
+    add-four-2
+    shared-slice-read-four-2
+    add-four-3
+    shared-slice-read-four-3
+    shared-slice-read-four-4
+    four-requires
+    returns)
