@@ -181,18 +181,23 @@ mod frozen {
     const OF_EACH_WIDTH: usize = 8;
     const OF_EACH_REFUSAL: usize = 100;
 
-    /// Good maps up to every width, under every missing management; damaged ones for every refusal that the Rust has too.
+    /// Good maps up to every width, under every missing management, three of four with more points than first values;
+    /// damaged ones for every refusal that the Rust has too.
     pub fn unpackings(spatial: bool) -> Vec<Row> {
         let mut dice = Dice::new(if spatial { 5 } else { 4 });
         let mut rows = Vec::new();
         for width in 0..=31 {
             for missing in 0..=2 {
-                let good = std::iter::repeat_with(|| {
+                let mut good = std::iter::repeat_with(|| {
                     let mut input = few(&mut dice, spatial, width);
                     input.template.missing = missing;
                     unpacking_row(&input)
-                });
-                rows.extend(good.flatten().filter(|row| row[REFUSAL] == 0).take(OF_EACH_WIDTH));
+                })
+                .flatten()
+                .filter(|row| row[REFUSAL] == 0);
+                rows.extend(good.by_ref().take(OF_EACH_WIDTH / 4));
+                let several = good.filter(|row| row[DECLARED] > row[ORDER].max(1));
+                rows.extend(several.take(OF_EACH_WIDTH * 3 / 4));
             }
         }
         let refusals: &[u8] = if spatial { &[1, 2, 3, 4, 5, 6, 7, 8] } else { &[1, 2, 5, 6, 7, 8] };
@@ -208,11 +213,13 @@ mod frozen {
     }
 
     fn few(dice: &mut Dice, spatial: bool, width: u64) -> Input {
-        let size = Size { groups: dice.one_of(&[1, 2, 3]), length: dice.one_of(&[1, 2, 3]), width };
+        let size = Size { groups: dice.one_of(&[1, 2, 3]), length: dice.one_of(&[1, 2, 4]), width };
         Input::some(dice, spatial, size)
     }
 
-    /// The place of the refusal in a row of unpacking.
+    /// Places in a row of unpacking.
+    const DECLARED: usize = 1;
+    const ORDER: usize = 12;
     const REFUSAL: usize = 15;
 
     /// None where the input does not fit a row, or document 01 does not ask the two to meet.
