@@ -4,7 +4,7 @@
 set -eu
 cd "$(dirname "$0")"
 
-OPERATIONS="run_length"
+OPERATIONS="run_length unpack_complex unpack_spatial_1 unpack_spatial_2"
 # Enough for a steady count, and few enough for callgrind.
 POINTS=100000
 
@@ -39,8 +39,10 @@ counted() {
 }
 
 for operation in $OPERATIONS; do
-    ours=$(counted "$operation" ours "cleatmow_$operation")
-    rust=$(counted "$operation" rust "oracle::*::rust_$operation")
+    # The order under 5.3 is no part of the functions' names.
+    function=${operation%_[12]}
+    ours=$(counted "$operation" ours "cleatmow_$function")
+    rust=$(counted "$operation" rust "oracle::*::rust_$function")
     echo "$operation: $POINTS points, instructions a point"
     echo "  ours, lent buffer  $ours"
     echo "  Rust, new list     $rust"

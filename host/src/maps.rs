@@ -1,5 +1,7 @@
 //! Sample maps for benchmarks and comparisons, the same at every run and on every machine.
 
+use crate::{Differences, Point, Template};
+
 /// A run-length map: what a call is given, and the levels that it must answer.
 pub struct RunLengthMap {
     /// The bits of a code.
@@ -56,6 +58,174 @@ impl RunLengthMap {
         while more > 0 {
             self.payload.push((u64::from(self.max_level) + 1 + more % base) as u8);
             more /= base;
+        }
+    }
+}
+
+/// A map under 5.2, or 5.3 where it has differences: what a call is given, and the points that it must answer.
+pub struct ComplexMap {
+    /// The template numbers.
+    pub template: Template,
+    /// The two that 5.3 has besides; none under 5.2.
+    pub differences: Option<Differences>,
+    /// The declared count of points.
+    pub declared: u32,
+    /// Section 7 after its five-octet header.
+    pub payload: Vec<u8>,
+    /// The points of the map.
+    pub points: Vec<Point>,
+}
+
+/// A map of gusts under 5.2.
+pub fn gusts(points: u32) -> ComplexMap {
+    let numbers = gust_numbers(points);
+    ComplexMap::packed(&numbers, &numbers, Vec::new(), None)
+}
+
+/// The same gusts under 5.3, order 1 or 2, with descriptors of two octets.
+pub fn gust_differences(order: u8, points: u32) -> ComplexMap {
+    let numbers = gust_numbers(points);
+    let place = |number: usize| i64::from(numbers[number]);
+    let first = usize::from(order).min(numbers.len());
+    let differences: Vec<i64> = (first..numbers.len())
+        .map(|number| match order {
+            1 => place(number) - place(number - 1),
+            _ => place(number) - 2 * place(number - 1) + place(number - 2),
+        })
+        .collect();
+    let least = differences.iter().copied().min().unwrap_or(0);
+    let sign = if least < 0 { 0x8000 } else { 0 };
+    let mut descriptors: Vec<u16> =
+        (0..usize::from(order)).map(|first| *numbers.get(first).unwrap_or(&0) as u16).collect();
+    descriptors.push(sign | least.unsigned_abs() as u16);
+    // What stands at the first points is not used: 0.
+    let mut packed = vec![0; first];
+    packed.extend(differences.iter().map(|difference| (difference - least) as u32));
+    let descriptors = descriptors.into_iter().flat_map(u16::to_be_bytes).collect();
+    ComplexMap::packed(&numbers, &packed, descriptors, Some(Differences { order, descriptor_octets: 2 }))
+}
+
+/// Numbers up to 16,383 that walk up and down. How far a step goes changes every few dozen points: calm stretches do
+/// not change at all, the roughest change by up to 512.
+fn gust_numbers(points: u32) -> Vec<u32> {
+    const GREATEST: i64 = 16_383;
+    let mut chance = Numbers::new(5_200);
+    let (mut number, mut rough) = (GREATEST / 4, 4);
+    let mut numbers = Vec::new();
+    while numbers.len() < points as usize {
+        rough = match chance.below(8) {
+            0 => 0,
+            1..=3 => (rough + 1).min(10),
+            4..=6 => rough.max(2) - 1,
+            _ => 1 + chance.below(6),
+        };
+        for _ in 0..1 + chance.below(120) {
+            let farthest = (1 << rough) / 2;
+            let step = chance.below(2 * farthest + 1) as i64 - farthest as i64;
+            number = (number + step).clamp(0, GREATEST);
+            numbers.push(number as u32);
+        }
+    }
+    numbers.truncate(points as usize);
+    numbers
+}
+
+impl ComplexMap {
+    /// These packed numbers, at least one, in groups. A group has the width of its first eight numbers, and ends before
+    /// the first that does not fit it; the lengths of all but the last take five bits.
+    fn packed(numbers: &[u32], packed: &[u32], descriptors: Vec<u8>, differences: Option<Differences>) -> ComplexMap {
+        const MOST: usize = 32;
+        let mut groups = Vec::new();
+        let mut left = packed;
+        while !left.is_empty() {
+            let most = left.len().min(MOST);
+            let mut length = most.min(8);
+            let width = width_of(&left[..length]);
+            while length < most && width_of(&left[..length + 1]) == width {
+                length += 1;
+            }
+            let (group, rest) = left.split_at(length);
+            groups.push((group, least_of(group), width));
+            left = rest;
+        }
+        let number_width = bits(groups.iter().map(|group| group.1).max().unwrap_or(0));
+        let least_width = groups.iter().map(|group| group.2).min().unwrap_or(0);
+        let greatest_width = groups.iter().map(|group| group.2).max().unwrap_or(0);
+        let template = Template {
+            number_width,
+            splitting: 1,
+            missing: 0,
+            groups: groups.len() as u32,
+            width_reference: least_width,
+            width_bits: bits(u32::from(greatest_width - least_width)),
+            length_reference: 1,
+            length_increment: 1,
+            last_length: groups.last().map_or(0, |group| group.0.len()) as u32,
+            length_bits: 5,
+        };
+        let mut field = Field::after(descriptors);
+        for (_, reference, _) in &groups {
+            field.add(*reference, number_width);
+        }
+        let mut field = Field::after(field.octets);
+        for (_, _, width) in &groups {
+            field.add(u32::from(width - least_width), template.width_bits);
+        }
+        let mut field = Field::after(field.octets);
+        for (group, _, _) in &groups {
+            field.add(group.len() as u32 - 1, template.length_bits);
+        }
+        let mut field = Field::after(field.octets);
+        for (group, reference, width) in &groups {
+            for number in *group {
+                field.add(number - reference, *width);
+            }
+        }
+        ComplexMap {
+            template,
+            differences,
+            declared: numbers.len() as u32,
+            payload: field.octets,
+            points: numbers.iter().map(|&number| Point::Number(number.into())).collect(),
+        }
+    }
+}
+
+/// The count of binary digits, 0 for 0.
+fn bits(number: u32) -> u8 {
+    (u32::BITS - number.leading_zeros()) as u8
+}
+
+fn least_of(group: &[u32]) -> u32 {
+    group.iter().copied().min().unwrap_or(0)
+}
+
+fn width_of(group: &[u32]) -> u8 {
+    bits(group.iter().copied().max().unwrap_or(0) - least_of(group))
+}
+
+/// Numbers end to end, most significant bit first, from an octet on.
+struct Field {
+    octets: Vec<u8>,
+    /// The bits of the last octet that are not used yet.
+    spare: u8,
+}
+
+impl Field {
+    fn after(octets: Vec<u8>) -> Field {
+        Field { octets, spare: 0 }
+    }
+
+    fn add(&mut self, number: u32, width: u8) {
+        for bit in (0..width).rev() {
+            if self.spare == 0 {
+                self.octets.push(0);
+                self.spare = 8;
+            }
+            self.spare -= 1;
+            if let Some(last) = self.octets.last_mut() {
+                *last |= ((number >> bit & 1) as u8) << self.spare;
+            }
         }
     }
 }

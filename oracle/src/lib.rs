@@ -5,7 +5,8 @@
 //! Where the text is not there, `have_text` is not set, there are no doors, and each program says so in one line.
 //!
 //! No door adds a test. What the Rust does not refuse runs: lengths that document 01 refuses may ask for more memory
-//! than there is, which ends the process, and run-length with b 0 never ends. Whoever calls looks first (`runs`).
+//! than there is, which ends the process, and run-length with b 0 never ends. Whoever calls looks first (`runs`,
+//! `unpacking`).
 
 #[cfg(have_text)]
 include!(concat!(env!("OUT_DIR"), "/text/root.rs"));
@@ -38,6 +39,9 @@ mod doors {
 
 pub mod dice;
 pub mod runs;
+pub mod unpacking;
+
+pub use cleatmow::{Differences, Point, Template};
 
 /// What a program prints, and all that it does, where the text is not there.
 pub const NOT_RUN: &str =
@@ -51,35 +55,6 @@ pub enum Outcome<T> {
     Refused(String),
     /// An overflow, where they are checked, or an index past the end.
     Panicked,
-}
-
-/// The numbers of template 5.2, in Section 5's order.
-#[derive(Clone, Copy, Debug, PartialEq, Eq)]
-pub struct Template {
-    pub number_width: u8,
-    pub splitting: u8,
-    pub missing: u8,
-    pub groups: u32,
-    pub width_reference: u8,
-    pub width_bits: u8,
-    pub length_reference: u32,
-    pub length_increment: u8,
-    pub last_length: u32,
-    pub length_bits: u8,
-}
-
-/// The two numbers that template 5.3 has besides.
-#[derive(Clone, Copy, Debug, PartialEq, Eq)]
-pub struct Differences {
-    pub order: u8,
-    pub descriptor_octets: u8,
-}
-
-#[derive(Clone, Copy, Debug, PartialEq, Eq)]
-pub enum Point {
-    Normal(i64),
-    Missing1,
-    Missing2,
 }
 
 #[derive(Clone, Copy, Debug, PartialEq, Eq)]
@@ -136,11 +111,36 @@ mod doors_to_the_text {
     }
 
     pub fn unpack_complex(template: &Template, payload: &[u8]) -> Outcome<Vec<Point>> {
-        caught(|| debug(decoder::door::unpack_complex(template, payload)))
+        caught(|| debug(decoder::door::unpack_complex(template, &Section7::new(payload).0)))
     }
 
     pub fn unpack_spatial(template: &Template, differences: &Differences, payload: &[u8]) -> Outcome<Vec<Point>> {
-        caught(|| debug(decoder::door::unpack_spatial(template, differences, payload)))
+        caught(|| debug(decoder::door::unpack_spatial(template, differences, &Section7::new(payload).0)))
+    }
+
+    /// A payload where the Rust's unpacking looks for it.
+    pub struct Section7(decoder::Grib2SubmessageDecoder);
+
+    impl Section7 {
+        pub fn new(payload: &[u8]) -> Self {
+            Self(decoder::door::message(payload))
+        }
+    }
+
+    /// Unpacking under 5.2 as it is timed, like `rust_run_length`: the points of the Rust's iterator, in a list.
+    #[inline(never)]
+    pub fn rust_unpack_complex(template: &Template, payload: &Section7) -> Option<Vec<Point>> {
+        decoder::door::unpack_complex(template, &payload.0).ok()
+    }
+
+    /// The same under 5.3.
+    #[inline(never)]
+    pub fn rust_unpack_spatial(
+        template: &Template,
+        differences: &Differences,
+        payload: &Section7,
+    ) -> Option<Vec<Point>> {
+        decoder::door::unpack_spatial(template, differences, &payload.0).ok()
     }
 
     pub fn pack(numbers: &[u32], lookahead: usize) -> Outcome<Packing> {

@@ -3,30 +3,13 @@
 #![cfg(have_text)]
 
 use oracle::Outcome::{Answer, Panicked, Refused};
-use oracle::Point::{self, Missing1, Missing2, Normal};
+use oracle::Point::{self, Missing1, Missing2, Number};
 use oracle::runs::Coding;
+use oracle::unpacking::template;
 use oracle::{Differences, Packing, Template};
 
-/// Document 01 lists template numbers as: number width; groups; width reference, width bits; length reference,
-/// increment, last, bits. Management is 0 unless said.
-fn template(numbers: [u32; 8]) -> Template {
-    let octet = |number: u32| u8::try_from(number).unwrap();
-    Template {
-        number_width: octet(numbers[0]),
-        splitting: 1,
-        missing: 0,
-        groups: numbers[1],
-        width_reference: octet(numbers[2]),
-        width_bits: octet(numbers[3]),
-        length_reference: numbers[4],
-        length_increment: octet(numbers[5]),
-        last_length: numbers[6],
-        length_bits: octet(numbers[7]),
-    }
-}
-
 fn normal(numbers: &[i64]) -> Vec<Point> {
-    numbers.iter().map(|&number| Normal(number)).collect()
+    numbers.iter().map(|&number| Number(number)).collect()
 }
 
 fn packed(numbers: &[u32], lookahead: usize) -> Packing {
@@ -131,7 +114,7 @@ fn complex_packing_is_unpacked() {
     let numbers = template([3, 2, 0, 1, 3, 0, 1, 0]);
     let unpacked = |missing| oracle::unpack_complex(&Template { missing, ..numbers }, &payload);
     assert_eq!(unpacked(0), Answer(normal(&[5, 6, 5, 7])));
-    assert_eq!(unpacked(1), Answer(vec![Normal(5), Missing1, Normal(5), Missing1]));
+    assert_eq!(unpacked(1), Answer(vec![Number(5), Missing1, Number(5), Missing1]));
     assert_eq!(unpacked(2), Answer(vec![Missing2, Missing1, Missing2, Missing1]));
     assert!(matches!(unpacked(3), Refused(_)));
     let by_rows = Template { splitting: 0, ..numbers };

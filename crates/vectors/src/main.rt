@@ -14,6 +14,12 @@ fn small(x: u8) -> usize
     x as usize
 }
 
+fn wide(x: u8) -> u32
+    ensures { λ r. ⌜ r ≡ x ⌝ }
+{
+    x as u32
+}
+
 fn pair(high: u8, low: u8) -> u16
     ensures { λ r. ⌜ r ≡ high * 256 + low ⌝ }
 {
@@ -105,6 +111,70 @@ fn unrolls_as_frozen(row: &[u8]) -> bool {
     check::same(&levels, &row[20..64])
 }
 
+// Template 5.2. A row has each number of the template in one octet.
+fn unpacks_as_frozen(row: &[u8]) -> bool {
+    if row.len() < 64 {
+        return false;
+    }
+    let length = small(row[14]);
+    if 12 < length {
+        return false;
+    }
+    let mut points = [0u8; 36];
+    let number = cleatmow::cleatmow_unpack_complex(
+        wide(row[1]),
+        row[2],
+        row[3],
+        row[4],
+        wide(row[5]),
+        row[6],
+        row[7],
+        wide(row[8]),
+        row[9],
+        wide(row[10]),
+        row[11],
+        &row[16..16 + length],
+        &mut points,
+    );
+    if (number as usize) != small(row[15]) {
+        return false;
+    }
+    check::same(&points, &row[28..64])
+}
+
+// Template 5.3.
+fn restores_as_frozen(row: &[u8]) -> bool {
+    if row.len() < 64 {
+        return false;
+    }
+    let length = small(row[14]);
+    if 12 < length {
+        return false;
+    }
+    let mut points = [0u8; 36];
+    let number = cleatmow::cleatmow_unpack_spatial(
+        wide(row[1]),
+        row[2],
+        row[3],
+        row[4],
+        wide(row[5]),
+        row[6],
+        row[7],
+        wide(row[8]),
+        row[9],
+        wide(row[10]),
+        row[11],
+        row[12],
+        row[13],
+        &row[16..16 + length],
+        &mut points,
+    );
+    if (number as usize) != small(row[15]) {
+        return false;
+    }
+    check::same(&points, &row[28..64])
+}
+
 fn as_frozen(row: &[u8]) -> bool {
     if row.len() < 64 {
         return false;
@@ -114,6 +184,8 @@ fn as_frozen(row: &[u8]) -> bool {
         1 => reads_as_frozen(row),
         2 => writes_as_frozen(row),
         3 => unrolls_as_frozen(row),
+        4 => unpacks_as_frozen(row),
+        5 => restores_as_frozen(row),
         _ => false,
     }
 }

@@ -1,7 +1,8 @@
 //! The benchmark: ours, through its C calls, and the Rust on the same map in one run. docs/PERFORMANCE.md says what is
 //! timed.
 //!
-//! `bench [OPERATION] [--points N]` times one operation or all, on maps of N points, 1,000,000 without the option.
+//! `bench [OPERATION] [--points N]` times one operation or all, on maps of N points, 1,000,000 without the option. Those
+//! that begin with `real_` unpack the real maps of samples/, which have the points that they have.
 //! With `--only-ours` or `--only-rust` it makes one call and times nothing, for a tool that counts instructions.
 //!
 //! An operation is a type that is an `Operation`, and a line in `OPERATIONS`.
@@ -25,13 +26,61 @@ mod bench {
     use std::hint::black_box;
     use std::time::Instant;
 
-    use cleatmow::maps::{RunLengthMap, rain};
-    use cleatmow::{LEVEL_OCTETS, MOST_POINTS, run_length, run_length_into};
-    use oracle::rust_run_length;
+    use cleatmow::maps::{ComplexMap, RunLengthMap, gust_differences, gusts, rain};
+    use cleatmow::{
+        Differences, LEVEL_OCTETS, MOST_POINTS, POINT_OCTETS, Point, Template, points_in, run_length, run_length_into,
+        unpack_complex, unpack_complex_into, unpack_spatial, unpack_spatial_into,
+    };
+    use oracle::{Section7, rust_run_length, rust_unpack_complex, rust_unpack_spatial};
 
-    /// Every operation: with `cleatmow_` before its name it is the C call, with `rust_` the oracle's function.
-    const OPERATIONS: [(&str, Run); 1] =
-        [("run_length", |name, options| bench(name, RunLength::new(options.points), options))];
+    /// A map of samples/, by its name.
+    macro_rules! real {
+        ($name:literal) => {
+            real(
+                include_bytes!(concat!("../../../samples/", $name, ".s5")),
+                include_bytes!(concat!("../../../samples/", $name, ".s7")),
+            )
+        };
+    }
+
+    /// Every operation: with `cleatmow_` before its name it is the C call, with `rust_` the oracle's function. Under 5.3
+    /// the order stands at the end of the name, and is no part of theirs; a real map names neither.
+    const OPERATIONS: [(&str, Run); 7] = [
+        ("run_length", |name, options| bench(name, RunLength::new(options.points), options)),
+        ("unpack_complex", |name, options| bench(name, Unpacking::new(gusts(options.points)), options)),
+        ("unpack_spatial_1", |name, options| bench(name, Unpacking::new(gust_differences(1, options.points)), options)),
+        ("unpack_spatial_2", |name, options| bench(name, Unpacking::new(gust_differences(2, options.points)), options)),
+        ("real_gust", |name, options| bench(name, Unpacking::new(real!("gfs-gust-144x73")), options)),
+        ("real_conus", |name, options| bench(name, Unpacking::new(real!("ndfd-conus-1073x689")), options)),
+        ("real_puerto_rico", |name, options| bench(name, Unpacking::new(real!("ndfd-puerto-rico-339x224")), options)),
+    ];
+
+    /// The host's tests hold its points to their digests; here they are what the Rust makes of it.
+    fn real(section_5: &[u8], section_7: &[u8]) -> ComplexMap {
+        let long = |octet: usize| u32::from_be_bytes(section_5[octet - 1..octet + 3].try_into().expect("four octets"));
+        let short = |octet: usize| section_5[octet - 1];
+        let template = Template {
+            number_width: short(20),
+            splitting: short(22),
+            missing: short(23),
+            groups: long(32),
+            width_reference: short(36),
+            width_bits: short(37),
+            length_reference: long(38),
+            length_increment: short(42),
+            last_length: long(43),
+            length_bits: short(47),
+        };
+        let differences =
+            (section_5.len() > 47).then(|| Differences { order: short(48), descriptor_octets: short(49) });
+        let payload = section_7[5..].to_vec();
+        let section = Section7::new(&payload);
+        let points = match &differences {
+            None => rust_unpack_complex(&template, &section),
+            Some(differences) => rust_unpack_spatial(&template, differences, &section),
+        };
+        ComplexMap { template, differences, declared: long(6), payload, points: points.expect("a good map") }
+    }
 
     /// Does with an operation of this name what the options say.
     type Run = fn(&str, &Options);
@@ -51,8 +100,8 @@ mod bench {
         fn left(&self) -> Self::Answer;
         /// What every call must give.
         fn right(&self) -> &Self::Answer;
-        /// The octets of the packed map.
-        fn octets(&self) -> usize;
+        /// The points and the octets of the packed map.
+        fn size(&self) -> (u32, usize);
     }
 
     struct RunLength {
@@ -93,8 +142,71 @@ mod bench {
             &self.map.levels
         }
 
-        fn octets(&self) -> usize {
-            self.map.payload.len()
+        fn size(&self) -> (u32, usize) {
+            (self.map.declared, self.map.payload.len())
+        }
+    }
+
+    /// Under 5.3 where the map has differences.
+    struct Unpacking {
+        map: ComplexMap,
+        /// The payload where the Rust looks for it.
+        section: Section7,
+        points: Vec<u8>,
+    }
+
+    impl Unpacking {
+        fn new(map: ComplexMap) -> Self {
+            let section = Section7::new(&map.payload);
+            let points = vec![0; map.declared as usize * POINT_OCTETS];
+            Self { map, section, points }
+        }
+    }
+
+    impl Operation for Unpacking {
+        type Answer = Vec<Point>;
+
+        fn ours_lent(&mut self) {
+            let ComplexMap { ref template, ref differences, declared, ref payload, .. } = self.map;
+            let payload = black_box(payload);
+            match differences {
+                None => unpack_complex_into(template, declared, payload, &mut self.points),
+                Some(differences) => unpack_spatial_into(template, differences, declared, payload, &mut self.points),
+            }
+            .expect("a good map");
+            black_box(&mut self.points);
+        }
+
+        fn ours_new(&self) -> Vec<Point> {
+            let ComplexMap { ref template, ref differences, declared, ref payload, .. } = self.map;
+            let payload = black_box(payload);
+            match differences {
+                None => unpack_complex(template, declared, payload),
+                Some(differences) => unpack_spatial(template, differences, declared, payload),
+            }
+            .expect("a good map")
+        }
+
+        fn rust(&self) -> Vec<Point> {
+            let ComplexMap { ref template, ref differences, .. } = self.map;
+            let section = black_box(&self.section);
+            match differences {
+                None => rust_unpack_complex(template, section),
+                Some(differences) => rust_unpack_spatial(template, differences, section),
+            }
+            .expect("a good map")
+        }
+
+        fn left(&self) -> Vec<Point> {
+            points_in(&self.points).collect()
+        }
+
+        fn right(&self) -> &Vec<Point> {
+            &self.map.points
+        }
+
+        fn size(&self) -> (u32, usize) {
+            (self.map.declared, self.map.payload.len())
         }
     }
 
@@ -142,7 +254,7 @@ mod bench {
     }
 
     fn bench(name: &str, mut operation: impl Operation, options: &Options) {
-        let Options { points, ref calls, .. } = *options;
+        let calls = &options.calls;
         if *calls != Calls::OnlyRust {
             operation.ours_lent();
             assert!(operation.left() == *operation.right(), "{name}: ours is wrong");
@@ -151,11 +263,11 @@ mod bench {
             assert!(operation.rust() == *operation.right(), "{name}: the Rust is wrong");
         }
         if *calls != Calls::Timed {
-            println!("{name}: one call on {points} points");
+            println!("{name}: one call on {} points", operation.size().0);
             return;
         }
         assert!(operation.ours_new() == *operation.right(), "{name}: ours is wrong as a list");
-        time(name, &mut operation, points);
+        time(name, &mut operation);
     }
 
     /// How often each form of ours is timed. The Rust is timed after each of them, so twice as often.
@@ -165,7 +277,7 @@ mod bench {
     /// up to 32 MiB). Otherwise a call would pay for pages that the one before it gave back to the system.
     const KEPT: usize = 30 << 20;
 
-    fn time(name: &str, operation: &mut impl Operation, points: u32) {
+    fn time(name: &str, operation: &mut impl Operation) {
         drop(black_box(vec![1_u8; KEPT]));
         let (mut lent, mut new, mut rust) = (Times::default(), Times::default(), Times::default());
         for _ in 0..REPETITIONS {
@@ -174,7 +286,8 @@ mod bench {
             new.add(|| operation.ours_new());
             rust.add(|| operation.rust());
         }
-        println!("{name}: {points} points in {} octets, nanoseconds a point", operation.octets());
+        let (points, octets) = operation.size();
+        println!("{name}: {points} points in {octets} octets, nanoseconds a point");
         let new = new.report("ours, new list", points);
         let lent = lent.report("ours, lent buffer", points);
         let rust = rust.report("Rust, new list", points);

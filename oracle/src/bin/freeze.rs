@@ -8,6 +8,9 @@
 //! - Kind 2, the bit writer: the same, but 4 to 23 are what writing the numbers leaves of twenty zeros.
 //! - Kind 3, run-length: 1 b; 2 and 3 M; 4 and 5 declared count; 6 length of the payload, 0 to 12; 7 document 01's
 //!   number for the refusal, or 0; 8 to 19 the payload; from 20 the levels, at most 22, two octets each.
+//! - Kinds 4 and 5, unpacking under 5.2 and 5.3: 1 declared count; 2 to 11 the template numbers in the order of the C
+//!   call, one octet each, and 12 and 13 the two that 5.3 has besides; 14 length of the payload, 0 to 12; 15 document
+//!   01's number for the refusal, or 0; 16 to 27 the payload; from 28 the points, at most four, nine octets each.
 
 #[cfg(not(have_text))]
 fn main() {
@@ -17,10 +20,17 @@ fn main() {
 #[cfg(have_text)]
 fn main() -> std::io::Result<()> {
     let path = std::env::args().nth(1).expect("usage: freeze FILE");
-    let kinds = [frozen::reads(), frozen::writes(), frozen::run_lengths()];
-    std::fs::write(path, kinds.concat().concat())?;
-    let [reads, writes, runs] = kinds.map(|rows| rows.len());
-    println!("frozen: {reads} rows of the bit reader, {writes} of the bit writer, {runs} of run-length");
+    let kinds = [
+        ("bit reader", frozen::reads()),
+        ("bit writer", frozen::writes()),
+        ("run-length", frozen::run_lengths()),
+        ("unpacking under 5.2", frozen::unpackings(false)),
+        ("unpacking under 5.3", frozen::unpackings(true)),
+    ];
+    for (kind, rows) in &kinds {
+        println!("frozen: {} rows of {kind}", rows.len());
+    }
+    std::fs::write(path, kinds.map(|(_, rows)| rows.concat()).concat())?;
     Ok(())
 }
 
@@ -29,6 +39,8 @@ mod frozen {
     use oracle::Outcome::{Answer, Panicked, Refused};
     use oracle::dice::Dice;
     use oracle::runs::{Coding, MOST_POINTS, refusal_for};
+    use oracle::unpacking::{Input, Reading, Size, octets_of, refusals_for};
+    use oracle::{Differences, Point, Template};
 
     type Row = [u8; 64];
 
@@ -163,6 +175,105 @@ mod frozen {
         put(&mut row[8..20], payload.iter().copied());
         put(&mut row[20..], levels.into_iter().flat_map(u16::to_be_bytes));
         Some(row)
+    }
+
+    /// How many rows there are of each greatest width under each missing management, and of each refusal.
+    const OF_EACH_WIDTH: usize = 8;
+    const OF_EACH_REFUSAL: usize = 100;
+
+    /// Good maps up to every width, under every missing management, three of four with more points than first values;
+    /// damaged ones for every refusal that the Rust has too.
+    pub fn unpackings(spatial: bool) -> Vec<Row> {
+        let mut dice = Dice::new(if spatial { 5 } else { 4 });
+        let mut rows = Vec::new();
+        for width in 0..=31 {
+            for missing in 0..=2 {
+                let mut good = std::iter::repeat_with(|| {
+                    let mut input = few(&mut dice, spatial, width);
+                    input.template.missing = missing;
+                    unpacking_row(&input)
+                })
+                .flatten()
+                .filter(|row| row[REFUSAL] == 0);
+                rows.extend(good.by_ref().take(OF_EACH_WIDTH / 4));
+                let several = good.filter(|row| row[DECLARED] > row[ORDER].max(1));
+                rows.extend(several.take(OF_EACH_WIDTH * 3 / 4));
+            }
+        }
+        let refusals: &[u8] = if spatial { &[1, 2, 3, 4, 5, 6, 7, 8] } else { &[1, 2, 5, 6, 7, 8] };
+        for refusal in refusals {
+            let damaged = std::iter::repeat_with(|| {
+                let mut input = few(&mut dice, spatial, 31);
+                input.damage(&mut dice);
+                unpacking_row(&input)
+            });
+            rows.extend(damaged.flatten().filter(|row| row[REFUSAL] == *refusal).take(OF_EACH_REFUSAL));
+        }
+        rows
+    }
+
+    fn few(dice: &mut Dice, spatial: bool, width: u64) -> Input {
+        let size = Size { groups: dice.one_of(&[1, 2, 3]), length: dice.one_of(&[1, 2, 4]), width };
+        Input::some(dice, spatial, size)
+    }
+
+    /// Places in a row of unpacking.
+    const DECLARED: usize = 1;
+    const ORDER: usize = 12;
+    const REFUSAL: usize = 15;
+
+    /// None where the input does not fit a row, or document 01 does not ask the two to meet.
+    fn unpacking_row(input: &Input) -> Option<Row> {
+        let Input { template, differences, declared, payload, .. } = input;
+        let octet = |number: u32| u8::try_from(number).ok();
+        let (groups, length_reference) = (octet(template.groups)?, octet(template.length_reference)?);
+        let last_length = octet(template.last_length)?;
+        if payload.len() > 12 || *declared > 4 {
+            return None;
+        }
+        let (refusal, points) = match input.read() {
+            Reading { answer: Err(9), .. } | Reading { apart: Some(_), .. } => return None,
+            Reading { answer: Err(number), .. } => match unpacked(input) {
+                Refused(said) if refusals_for(&said).contains(&number) => (number, Vec::new()),
+                other => panic!("{input:?}: refusal {number}, and the Rust: {other:?}"),
+            },
+            Reading { answer: Ok(_), .. } => match unpacked(input) {
+                Answer(points) => (0, points),
+                other => panic!("{input:?}: accepted, and the Rust: {other:?}"),
+            },
+        };
+        let Template { number_width, splitting, missing, width_reference, width_bits, .. } = *template;
+        let Template { length_increment, length_bits, .. } = *template;
+        let differences = differences.unwrap_or(Differences { order: 0, descriptor_octets: 0 });
+        let mut row = [0; 64];
+        row[..16].copy_from_slice(&[
+            if input.differences.is_some() { 5 } else { 4 },
+            *declared as u8,
+            number_width,
+            splitting,
+            missing,
+            groups,
+            width_reference,
+            width_bits,
+            length_reference,
+            length_increment,
+            last_length,
+            length_bits,
+            differences.order,
+            differences.descriptor_octets,
+            payload.len() as u8,
+            refusal as u8,
+        ]);
+        put(&mut row[16..28], payload.iter().copied());
+        put(&mut row[28..], octets_of(&points).into_iter());
+        Some(row)
+    }
+
+    fn unpacked(input: &Input) -> oracle::Outcome<Vec<Point>> {
+        match &input.differences {
+            None => oracle::unpack_complex(&input.template, &input.payload),
+            Some(differences) => oracle::unpack_spatial(&input.template, differences, &input.payload),
+        }
     }
 
     /// Panics where there is no room.

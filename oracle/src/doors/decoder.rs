@@ -2,7 +2,7 @@
 
 use super::stream::BitStream;
 
-pub(crate) use super::complex::door::{unpack_complex, unpack_spatial};
+pub(crate) use super::complex::door::{message, unpack_complex, unpack_spatial};
 pub(crate) use super::run_length::door::run_length;
 
 pub(crate) fn read_bits(octets: &[u8], start: usize, width: usize, count: usize) -> Vec<u32> {

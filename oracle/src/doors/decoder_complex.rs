@@ -8,18 +8,17 @@ use crate::def::grib2::{DataRepresentationTemplate, Section, Section5Payload, Se
 use crate::shims::encoder::HEADER_OCTETS;
 use crate::{Differences, Point, Template};
 
-pub(crate) fn unpack_complex(template: &Template, payload: &[u8]) -> Result<Vec<Point>, DecodeError> {
+pub(crate) fn unpack_complex(template: &Template, message: &Grib2SubmessageDecoder) -> Result<Vec<Point>, DecodeError> {
     let (simple, complex) = parameters(template);
     let template = Template5_2 { simple, orig_field_type: 0, complex };
-    let message = message(payload);
-    let points = before_floats(Complex(&message, &template).iter()?);
+    let points = before_floats(Complex(message, &template).iter()?);
     Ok(points.map(point).collect())
 }
 
 pub(crate) fn unpack_spatial(
     template: &Template,
     differences: &Differences,
-    payload: &[u8],
+    message: &Grib2SubmessageDecoder,
 ) -> Result<Vec<Point>, DecodeError> {
     let (simple, complex) = parameters(template);
     let template = Template5_3 {
@@ -29,8 +28,7 @@ pub(crate) fn unpack_spatial(
         spatial_diff_order: differences.order,
         num_extra_desc_octets: differences.descriptor_octets,
     };
-    let message = message(payload);
-    let points = before_floats(ComplexSpatial(&message, &template).iter()?);
+    let points = before_floats(ComplexSpatial(message, &template).iter()?);
     Ok(points.map(point).collect())
 }
 
@@ -54,7 +52,7 @@ fn parameters(template: &Template) -> (param_set::SimplePacking, param_set::Comp
 
 /// A message with this payload. Unpacking is handed its template beside the message and looks at no declared count, so
 /// Section 5 is the shortest that there is.
-fn message(payload: &[u8]) -> Grib2SubmessageDecoder {
+pub(crate) fn message(payload: &[u8]) -> Grib2SubmessageDecoder {
     let header = SectionHeader { len: 0, sect_num: 5 };
     let shortest = Section5Payload {
         num_encoded_points: 0,
@@ -71,7 +69,7 @@ fn message(payload: &[u8]) -> Grib2SubmessageDecoder {
 
 fn point<N: ToPrimitive + Into<i64>>(value: DecodedValue<N>) -> Point {
     match value {
-        DecodedValue::Normal(number) => Point::Normal(number.into()),
+        DecodedValue::Normal(number) => Point::Number(number.into()),
         DecodedValue::Missing1 => Point::Missing1,
         DecodedValue::Missing2 => Point::Missing2,
     }

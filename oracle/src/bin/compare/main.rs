@@ -1,7 +1,11 @@
 //! The live comparison: the Rust and ours, through its C calls, on the same inputs, which are the same in every run.
 //!
 //! `compare` runs it all, prints what was compared, and fails on a difference and where too little was compared.
-//! `compare run_length BITS MAX_LEVEL DECLARED PAYLOAD` (hexadecimal, - for none) judges one input.
+//! With an operation and an input it judges that one, whose payload is hexadecimal, or - for none:
+//!
+//! - `compare run_length BITS MAX_LEVEL DECLARED PAYLOAD`
+//! - `compare unpack_complex` and the numbers of the C call in its order, the octets that are lent, the payload
+//! - `compare unpack_spatial`, likewise
 //!
 //! An operation is a module with an `Input` that prints and reads itself, `judge` and `compare`, and a line here.
 
@@ -14,6 +18,10 @@ fn main() {
 mod run_length;
 #[cfg(have_text)]
 mod tally;
+#[cfg(have_text)]
+mod unpacking;
+#[cfg(have_text)]
+mod words;
 
 #[cfg(have_text)]
 fn main() -> std::process::ExitCode {
@@ -23,14 +31,26 @@ fn main() -> std::process::ExitCode {
     let words: Vec<&str> = arguments.iter().map(String::as_str).collect();
     let agreed = match words[..] {
         // Each prints its table, whatever the one before it found.
-        [] => [run_length::compare()].map(|tally| tally.report()) == [true],
+        [] => {
+            let operations: [fn() -> tally::Tally; 3] =
+                [run_length::compare, unpacking::compare_complex, unpacking::compare_spatial];
+            operations.map(|compare| compare().report()) == [true; 3]
+        }
         ["run_length", ref input @ ..] => {
             let input = run_length::Input::from_words(input).expect("see the top of this file");
-            let verdict = run_length::judge(&input);
-            println!("{input}: {verdict:?}");
-            !matches!(verdict, tally::Verdict::Different(_))
+            judged(&input, run_length::judge(&input))
+        }
+        [operation @ ("unpack_complex" | "unpack_spatial"), ref input @ ..] => {
+            let input = unpacking::Shown::from_words(operation, input).expect("see the top of this file");
+            judged(&input, unpacking::Judge::default().judge(&input.0))
         }
         _ => panic!("see the top of this file"),
     };
     if agreed { ExitCode::SUCCESS } else { ExitCode::FAILURE }
+}
+
+#[cfg(have_text)]
+fn judged(input: &impl std::fmt::Display, verdict: tally::Verdict) -> bool {
+    println!("{input}: {verdict:?}");
+    !matches!(verdict, tally::Verdict::Different(_))
 }

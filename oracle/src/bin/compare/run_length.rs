@@ -7,6 +7,7 @@ use oracle::dice::Dice;
 use oracle::runs::{Coding, MOST_POINTS, refusal_for};
 
 use crate::tally::{Tally, Verdict};
+use crate::words;
 
 pub struct Input {
     coding: Coding,
@@ -17,11 +18,7 @@ pub struct Input {
 impl Display for Input {
     fn fmt(&self, f: &mut Formatter) -> fmt::Result {
         let Coding { bits, max_level } = self.coding;
-        write!(f, "run_length {bits} {max_level} {} ", self.declared)?;
-        if self.payload.is_empty() {
-            write!(f, "-")?;
-        }
-        self.payload.iter().try_for_each(|octet| write!(f, "{octet:02x}"))
+        write!(f, "run_length {bits} {max_level} {} {}", self.declared, words::of(&self.payload))
     }
 }
 
@@ -31,13 +28,10 @@ impl Input {
             return None;
         };
         let (bits, max_level) = (bits.parse().ok()?, max_level.parse().ok()?);
-        let digits = if *payload == "-" { "" } else { payload };
-        let octet = |place| u8::from_str_radix(digits.get(place..place + 2)?, 16).ok();
-        let octets = (0..digits.len()).step_by(2).map(octet);
         Some(Self {
             coding: Coding { bits, max_level },
             declared: declared.parse().ok()?,
-            payload: octets.collect::<Option<_>>()?,
+            payload: words::octets(payload)?,
         })
     }
 }
