@@ -6,7 +6,6 @@ use native.Mathlib.Nat.{zero-mul, add-mul, add-zero, mul-le-mul-right}
 use native.Mathlib.Omega.{arith}
 use borrow.Author.Tests.{eq-eqb, ne-eqb}
 use lib.ListN.{length, replicate}
-use lib.IntN.{ℤ, pos}
 use lib.Seq.{sets, length-sets}
 use Rattle.format.specs.Lists.{listed}
 use Rattle.format.specs.Bits.{numberAt}
@@ -14,13 +13,11 @@ use Rattle.format.specs.Layout.{pointSize, pointOctets, markOf, heldBy, twosCom
 use Rattle.format.specs.Unpacking.{decoded, pointOf}
 use Rattle.format.specs.declared.Template.{Template}
 use Rattle.format.specs.declared.DecodedValue.{DecodedValue}
-use Rattle.format.specs.declared.DecodedValue.the-variants.{Normal}
 use Rattle.laws.specs.Lists.{length-listed, listed-more, listed-ext}
 use Rattle.laws.specs.Bits.{bit-lt, number-below}
 use Rattle.laws.specs.Stores.{sets-append, flat-append, length-flat}
 use Rattle.complex.specs.declared.Run.{Run}
-use Rattle.complex.proofs.Decoding.{decoded-unmanaged}
-use Rattle.complex.specs.Runs.{valueAt, runPoints, runNumbers, Narrow}
+use Rattle.complex.specs.Runs.{valueAt, runPoints, Narrow}
 
 pub size-point : (point : DecodedValue) → length (pointOctets point) ≡ 9
 size-point point = ap suc (length-listed 8 _)
@@ -128,12 +125,6 @@ module _ (t : Template) (run : Run) (payload : List ℕ) (p : ℕ) where
   unfolding pointOf
   points-same w {point} ep = sym (listed-same (run .length) point) ∙ listed-ext (run .length) _ _ (λ k l. ep ∙ simp (eq-eqb (run .width) 0 w))
 
-  -- and where nothing is managed none is missing
-  pub points-unmanaged : 0 < run .width → t .management ≡ 0 → runNumbers run payload p ≡ runPoints t run payload p
-  points-unmanaged w m =
-      listed-ext (run .length) _ _
-      (λ k l. point-wide w k refl (decoded-unmanaged t (run .width) (valueAt run payload p k) (valueAt run payload p k + run .reference) m refl))
-
   module _ {points₀ points : List ℕ} {from bit k : ℕ} (h : Narrow run p) where
     pub values-more : Reading run p (λ i. pointOf t (run .width) (run .reference) (valueAt run payload p i)) points₀ from points bit k → 0 < run .width → k < run .length
         → {value : ℕ} {point : DecodedValue} {points′ : List ℕ} → value ≡ numberAt payload bit (run .width) → point ≡ decoded t (run .width) value (value + run .reference)
@@ -141,19 +132,8 @@ module _ (t : Template) (run : Run) (payload : List ℕ) (p : ℕ) where
         → Reading run p (λ i. pointOf t (run .width) (run .reference) (valueAt run payload p i)) points₀ from points′ (bit + run .width) (k + 1)
     values-more r w l ev ep e = reading-more r h l (point-wide w k (value-is r h payload ev) ep) e
 
-  -- so one point in all its places is what a group of width 0 has, and numbers are what an unmanaged one has
+  -- so one point in all its places is what such a group has
   module _ (before : List ℕ) (at : ℕ) {after : List ℕ} where
     pub same-is : run .width ≡ 0 → {width : ℕ} {point : DecodedValue} → (width ≡ t .width) × (width < 256) → point ≡ decoded t width (run .reference) (run .reference)
         → after ≡ sets before at (flatMap pointOctets (replicate (run .length) point)) → after ≡ sets before at (flatMap pointOctets (runPoints t run payload p))
     same-is w ew ep e = e ∙ ap (λ (l : List DecodedValue). sets before at (flatMap pointOctets l)) (points-same w (rw (ew .0) at ep))
-
-    pub numbers-are : 0 < run .width → t .management ≡ 0 → after ≡ sets before at (flatMap pointOctets (runNumbers run payload p))
-        → after ≡ sets before at (flatMap pointOctets (runPoints t run payload p))
-    numbers-are w m e = e ∙ ap (λ (l : List DecodedValue). sets before at (flatMap pointOctets l)) (points-unmanaged w m)
-
-module _ (run : Run) (payload : List ℕ) (p : ℕ) {points₀ points : List ℕ} {from bit k : ℕ} (h : Narrow run p) where
-  pub numbers-more : Reading run p (λ i. Normal (pos (valueAt run payload p i + run .reference))) points₀ from points bit k → k < run .length
-      → {value : ℕ} {point : DecodedValue} {points′ : List ℕ} → value ≡ numberAt payload bit (run .width) → point ≡ Normal (pos (value + run .reference))
-      → points′ ≡ sets points ((from + k) * 9) (pointOctets point)
-      → Reading run p (λ i. Normal (pos (valueAt run payload p i + run .reference))) points₀ from points′ (bit + run .width) (k + 1)
-  numbers-more r l ev ep e = reading-more r h l (ep ∙ ap (λ (v : ℕ). Normal (pos (v + run .reference))) (value-is r h payload ev)) e

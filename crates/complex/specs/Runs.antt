@@ -4,14 +4,12 @@ use mathlib.Core.Path.{_≡_}
 use mathlib.Core.Bool.{false}
 use mathlib.Core.List.{List}
 use lib.ListN.{length}
-use lib.IntN.{pos}
 use Rattle.format.specs.Lists.{listed, anyOf}
 use Rattle.format.specs.Bits.{numberAt}
 use Rattle.format.specs.Layout.{pointSize}
 use Rattle.format.specs.Unpacking.{Codes, codesOf, referenceOf, groupWidth, groupLength, pointsBefore, wrongGroup, pointOf}
 use Rattle.format.specs.declared.Template.{Template}
 use Rattle.format.specs.declared.DecodedValue.{DecodedValue}
-use Rattle.format.specs.declared.DecodedValue.the-variants.{Normal}
 use Rattle.complex.specs.declared.Run.{Run}
 
 -- group g
@@ -25,10 +23,6 @@ valueAt r payload p k = numberAt payload (p + k * r .width) (r .width)
 -- its points
 abbrev pub runPoints : Template → Run → List ℕ → ℕ → List DecodedValue
 runPoints t r payload p = listed (r .length) (λ k. pointOf t (r .width) (r .reference) (valueAt r payload p k))
-
--- and its points where none is missing
-abbrev pub runNumbers : Run → List ℕ → ℕ → List DecodedValue
-runNumbers r payload p = listed (r .length) (λ k. Normal (pos (valueAt r payload p k + r .reference)))
 
 -- a group within document 01's limits, somewhere in a payload
 pub record Narrow (r : Run) (p : ℕ) : Type 0 where

@@ -1,16 +1,18 @@
 // Points of the groups under 5.2 and 5.3, after the Rust's complex.rs: from the group fields and the values to lent octets.
 ghost use mathlib.Core.Path.{_≡_};
+ghost use mathlib.Core.Bool.{true};
 ghost use mathlib.Core.List.{flatMap};
 ghost use Prim.Native.Nat.{_+_, _*_, _/_, _<_, _≤_, _^_};
 ghost use lib.IntN.{pos};
 ghost use lib.ListN.{length, replicate};
 ghost use lib.Seq.{sets};
 ghost use Rattle.format.specs.Lists.{_over_};
+ghost use Rattle.format.specs.Bits.{numberAt};
 ghost use Rattle.format.specs.Layout.{pointSize, pointOctets};
 ghost use Rattle.format.specs.Unpacking.{codesOf, saidBy, decoded, pointsUpTo};
 ghost use Rattle.format.specs.declared.DecodedValue.the-variants.{Normal};
 ghost use Rattle.group_fields.specs.Walk.{Walkable};
-ghost use Rattle.complex.specs.Runs.{runAt, runPoints, runNumbers, Narrow, Roomy};
+ghost use Rattle.complex.specs.Runs.{runAt, runPoints, Narrow, Roomy};
 use format::BitPlace;
 use format::DecodedValue;
 use format::Template;
@@ -69,39 +71,35 @@ pub fn store_same(points: &mut [u8], from: usize, count: usize, point: DecodedVa
     }
 }
 
+// A value. Where eight octets are there from it on, no end is looked for.
+fn read_value(payload: &[u8], place: BitPlace, width: usize, there: bool) -> u32
+    requires { ⌜ (there ≡ true → place .0 / 8 + 8 ≤ length (now payload)) × (0 < width) × (width ≤ 32) ⌝ }
+    ensures { λ r. ⌜ r ≡ numberAt (now (payload .entry)) (place .0) width ⌝ }
+{
+    if there {
+        return stream::read_there(payload, place, width);
+    }
+    stream::read_number(payload, place, width)
+}
+
 // The points of a group of width above 0, whose values begin at a place.
 fn store_values(
     template: Template,
     payload: &[u8],
     place: BitPlace,
     run: Run,
+    there: bool,
     points: &mut [u8],
     from: usize,
 )
-    requires { ⌜ Narrow run (place .0) × (0 < run .width) × ((from + run .length) * pointSize ≤ length (now points)) ⌝ }
+    requires { ⌜ Narrow run (place .0) × (0 < run .width) × (there ≡ true → (place .0 + run .length * run .width) / 8 + 8 ≤ length (now payload)) × ((from + run .length) * pointSize ≤ length (now points)) ⌝ }
     ensures { λ _. ⌜ now (points .exit) ≡ sets (now (points .entry)) (from * pointSize) (flatMap pointOctets (runPoints template run (now (payload .entry)) (place .0))) ⌝ }
 {
     let mut bit = place.0;
     let mut k = 0usize;
     while k < run.length {
-        let value = stream::read_number(payload, BitPlace(bit), run.width);
+        let value = read_value(payload, BitPlace(bit), run.width, there);
         let point = decoded(template, run.width, value, value + run.reference);
-        layout::store_point(points, from + k, point);
-        bit += run.width;
-        k += 1;
-    }
-}
-
-// The same where no value is missing and eight octets are there from each value on: nothing is tested at a point.
-fn store_numbers(payload: &[u8], place: BitPlace, run: Run, points: &mut [u8], from: usize)
-    requires { ⌜ Narrow run (place .0) × (0 < run .width) × ((place .0 + run .length * run .width) / 8 + 8 ≤ length (now payload)) × ((from + run .length) * pointSize ≤ length (now points)) ⌝ }
-    ensures { λ _. ⌜ now (points .exit) ≡ sets (now (points .entry)) (from * pointSize) (flatMap pointOctets (runNumbers run (now (payload .entry)) (place .0))) ⌝ }
-{
-    let mut bit = place.0;
-    let mut k = 0usize;
-    while k < run.length {
-        let value = stream::read_there(payload, BitPlace(bit), run.width);
-        let point = normal(value + run.reference);
         layout::store_point(points, from + k, point);
         bit += run.width;
         k += 1;
@@ -126,16 +124,9 @@ fn store_run(
         store_same(points, from, run.length, point);
         return;
     }
-    if template.management != 0 {
-        store_values(template, payload, place, run, points, from);
-        return;
-    }
     let end = BitPlace(place.0 + group_fields::times(run.length, run.width));
-    if payload.len() < places::octet_of(end).0 + 8 {
-        store_values(template, payload, place, run, points, from);
-        return;
-    }
-    store_numbers(payload, place, run, points, from);
+    let there = places::octet_of(end).0 + 8 <= payload.len();
+    store_values(template, payload, place, run, there, points, from);
 }
 
 fn run_of(template: Template, payload: &[u8], fields: Fields, g: usize) -> Run

@@ -3,23 +3,25 @@ use Prim.Native.Nat.{_-_, _^_, _<_}
 use native.Mathlib.Omega.{arith}
 use Rattle.format.specs.Unpacking.{pointOf}
 use Rattle.complex.specs.Runs.{valueAt}
-use Rattle.complex.proofs.Storing.{Reading, reading-start, reading-end, value-low, values-more}
+use Rattle.complex.proofs.Storing.{Reading, reading-start, reading-end, value-low, there-still, values-more}
 use Rattle.complex.proofs.store_values.Statement.{statement}
 use Rattle.complex.proofs.store_values.Tie as tie
 
 abbrev Inv-loop : tie.InvT-loop
-Inv-loop template payload run points₀ from bit₀ k₀ points bit k = Reading run bit₀ (λ i. pointOf template (run .width) (run .reference) (valueAt run payload bit₀ i)) points₀ from points bit k
+Inv-loop template payload run there points₀ from bit₀ k₀ points bit k = Reading run bit₀ (λ i. pointOf template (run .width) (run .reference) (valueAt run payload bit₀ i)) points₀ from points bit k
 
 abbrev μ-loop : tie.MeasureT-loop
-μ-loop template payload run points₀ from bit₀ k₀ points bit k = run .length - k
+μ-loop template payload run there points₀ from bit₀ k₀ points bit k = run .length - k
 
 loop-holds : tie.Need-loop-holds Inv-loop μ-loop
 loop-holds c = reading-start _ _ _ _ _
 
-read-number-requires : tie.Need-read-number-requires Inv-loop μ-loop
-read-number-requires c κs = omega arith
+read-value-requires : tie.Need-read-value-requires Inv-loop μ-loop
+read-value-requires c κs =
+    let start = c .before .before .before .before .before in
+    (λ t. there-still (c .before .before .loop .inv) (start .pre .0) (c .if1 .taken) (start .pre .2 t), start .pre .1, omega arith)
 
-value : (c : tie.After-struct-known2 Inv-loop μ-loop) → c .before .read-number .result < 2 ^ 31
+value : (c : tie.After-struct-known2 Inv-loop μ-loop) → c .before .read-value .result < 2 ^ 31
 value c = search value-low
 
 add-decoded : tie.Need-add-decoded Inv-loop μ-loop
@@ -46,7 +48,7 @@ loop-less c = omega arith
 loop-again : tie.Need-loop-again Inv-loop μ-loop
 loop-again c =
     let start = c .before .before .before .before .before .before .before .before .before .before .before .before .before in
-    values-more (start .args .template) (start .args .run) _ _ (start .pre .0) (c .before .before .before .before .before .before .before .before .before .before .loop .inv) (start .pre .1) (c .before .before .before .before .before .before .before .before .if1 .taken) (c .before .before .before .before .before .before .before .read-number .ensures) (c .before .before .before .before .before .decoded .ensures) (c .before .before .before .store-point .ensures)
+    values-more (start .args .template) (start .args .run) _ _ (start .pre .0) (c .before .before .before .before .before .before .before .before .before .before .loop .inv) (start .pre .1) (c .before .before .before .before .before .before .before .before .if1 .taken) (c .before .before .before .before .before .before .before .read-value .ensures) (c .before .before .before .before .before .decoded .ensures) (c .before .before .before .store-point .ensures)
 
 same-length : tie.Need-same-length Inv-loop μ-loop
 same-length c = c .before .before .loop .inv .stored .long
@@ -61,7 +63,7 @@ store-values-spec =
     Inv-loop
     μ-loop
     loop-holds
-    read-number-requires
+    read-value-requires
     add-decoded
     decoded-requires
     add-store-point
