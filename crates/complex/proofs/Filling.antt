@@ -1,28 +1,29 @@
 -- The points of all groups, group by group. Assumes nothing.
-use mathlib.Core.Path.{_≡_, refl, sym, ap, ap₂, subst, _∙_}
+use mathlib.Core.Path.{_≡_, refl, sym, ap, _∙_}
 use mathlib.Core.Bool.{false}
-use mathlib.Core.List.{List, [], _++_, flatMap}
-use Prim.Native.Nat.{ℕ, zero, suc, _+_, _-_, _*_, _^_, _≤_, _<_}
+use mathlib.Core.List.{List, flatMap}
+use Prim.Native.Nat.{ℕ, _+_, _*_, _^_, _≤_, _<_}
 use native.Mathlib.Nat.{mul-le-mul-left}
 use native.Mathlib.Omega.{arith}
 use borrow.Author.Tests.{ltb-false}
 use lib.Dec.{ltb}
-use lib.ListN.{length, getD, length-append}
+use lib.ListN.{length, getD}
 use lib.Seq.{sets, length-sets}
-use Rattle.format.specs.Lists.{listed, total, joined, anyOf, _over_}
-use Rattle.format.specs.Bits.{numberAt, fieldOf}
-use Rattle.format.specs.Layout.{pointSize, pointOctets}
+use Rattle.format.specs.Lists.{listed, total, joined, _over_}
+use Rattle.format.specs.Bits.{numberAt}
+use Rattle.format.specs.Layout.{pointOctets}
 use Rattle.format.specs.Template.{valuesAt}
-use Rattle.format.specs.Unpacking.{Codes, codesOf, referenceOf, groupWidth, groupLength, pointsBefore, bitsBefore, wrongGroup, Said, saidBy, pointOf, pointAt, pointsUpTo}
+use Rattle.format.specs.Unpacking.{Codes, codesOf, referenceOf, groupWidth, groupLength, pointsBefore, bitsBefore, wrongGroup, saidBy, pointAt, pointsUpTo}
 use Rattle.format.specs.declared.Template.{Template}
 use Rattle.format.specs.declared.DecodedValue.{DecodedValue}
-use Rattle.laws.specs.Lists.{length-listed, getD-listed, listed-ext, any-none, either-left, total-next, total-ext, total-upto, joined-next, length-joined}
-use Rattle.laws.specs.Bits.{product, bit-lt, number-below}
+use Rattle.laws.specs.Lists.{length-listed, getD-listed, listed-ext, any-none, either-left, total-next, joined-next}
+use Rattle.laws.specs.Bits.{bit-lt, number-below}
+use Rattle.laws.specs.Points.{length-points, points-within, point-read}
 use Rattle.laws.specs.Stores.{flat-over}
 use Rattle.group_fields.specs.Walk.{Walkable}
 use Rattle.group_fields.specs.declared.Fields.{Fields}
 use Rattle.complex.specs.declared.Run.{Run}
-use Rattle.complex.specs.Runs.{runAt, valueAt, runPoints, Narrow, Roomy}
+use Rattle.complex.specs.Runs.{runAt, runPoints, Narrow, Roomy}
 use Rattle.complex.proofs.Storing.{size-point}
 
 pub run-is : (codes : Codes) (t : Template) (g : ℕ) {reference width length : ℕ} → reference ≡ referenceOf codes g → width ≡ groupWidth t codes g → length ≡ groupLength t codes g
@@ -47,14 +48,6 @@ module _ {start : ℕ} {t : Template} {payload lent : List ℕ} (h : Roomy start
       let right : wrongGroup t codes (getD (listed (t .groups) (λ k. k)) g 0) ≡ false = any-none (wrongGroup t codes) (listed (t .groups) (λ k. k)) 0 (h .right) g (omega (arith, length-listed (t .groups) (λ (k : ℕ). k))) in
       let here : wrongGroup t codes g ≡ false = rw (getD-listed (t .groups) (λ k. k) 0 g l) at right in
       ltb-false 31 (groupWidth t codes g) (either-left (ltb 31 (groupWidth t codes g)) _ here)
-
-  -- with the points before it, it is within the room
-  length-within : (g : ℕ) → g < t .groups → pointsBefore t codes g + groupLength t codes g ≤ pointsBefore t codes (t .groups)
-  unfolding pointsBefore
-  length-within g l =
-      let d : ℕ = t .groups - (g + 1) in
-      let e : g + 1 + d ≡ t .groups = omega arith in
-      rw (← total-next g (groupLength t codes)) (subst (λ (n : ℕ). total (g + 1) (groupLength t codes) ≤ total n (groupLength t codes)) e (total-upto (g + 1) d (groupLength t codes)))
 
 -- ---- filling
 
@@ -82,19 +75,7 @@ filling-start w payload lent e = record {
 points-of-run : (start : ℕ) (t : Template) (payload : List ℕ) (g : ℕ) → g < t .groups
     → runPoints t (runAt t (codesOf start t payload) g) payload (valuesAt start t * 8 + bitsBefore t (codesOf start t payload) g)
     ≡ listed (groupLength t (codesOf start t payload) g) (pointAt t (saidBy start t payload) g)
-unfolding pointAt saidBy
-points-of-run start t payload g l =
-    let codes = codesOf start t payload in
-    let field : ℕ → List ℕ = λ i. fieldOf payload (valuesAt start t * 8 + bitsBefore t codes i) (groupWidth t codes i) (groupLength t codes i) in
-    listed-ext (groupLength t codes g) _ _
-    (λ k m. ap (pointOf t (groupWidth t codes g) (referenceOf codes g))
-    (sym (ap (λ (xs : List ℕ). getD xs k 0) (getD-listed (t .groups) field [] g l)
-    ∙ getD-listed (groupLength t codes g) (λ i. numberAt payload (valuesAt start t * 8 + bitsBefore t codes g + i * groupWidth t codes g) (groupWidth t codes g)) 0 k m)))
-
-pub length-upto : (start : ℕ) (t : Template) (payload : List ℕ) (g : ℕ) → length (pointsUpTo t (saidBy start t payload) g) ≡ pointsBefore t (codesOf start t payload) g
-unfolding pointsUpTo pointsBefore saidBy
-length-upto start t payload g =
-    length-joined g _ ∙ total-ext g _ _ (λ i l. length-listed (groupLength t (codesOf start t payload) i) (pointAt t (saidBy start t payload) i))
+points-of-run start t payload g l = listed-ext (groupLength t (codesOf start t payload) g) _ _ (λ k m. sym (point-read start t payload g k l m))
 
 module _ {t : Template} {f : Fields} (walkable : Walkable t f) {payload lent points : List ℕ} {bit k g n : ℕ} (roomy : Roomy (f .references .0) t payload lent)
     (x : Filling (f .references .0) t payload lent points bit k g) (en : (n ≡ t .groups) × (n < 2 ^ 32)) where
@@ -103,7 +84,7 @@ module _ {t : Template} {f : Fields} (walkable : Walkable t f) {payload lent poi
 
   module _ (l : g < n) {run : Run} (er : run ≡ runAt t all g) where
     within : k + run .length ≤ pointsBefore t all (t .groups)
-    within = rw er (omega (arith, length-within roomy g (omega arith), x .count))
+    within = rw er (omega (arith, points-within t all (t .groups) g (omega arith), x .count))
 
     pub filling-few : k + run .length ≤ 4194304
     filling-few = omega (arith, within, roomy .few)
@@ -134,7 +115,7 @@ module _ {t : Template} {f : Fields} (walkable : Walkable t f) {payload lent poi
       there =
           let done = pointsUpTo t (saidBy (f .references .0) t payload) g in
           let more = listed (groupLength t all g) (pointAt t (saidBy (f .references .0) t payload) g) in
-          let place : k ≡ length done = x .count ∙ sym (length-upto (f .references .0) t payload g) in
+          let place : k ≡ length done = x .count ∙ sym (length-points t (saidBy (f .references .0) t payload) g) in
           let size : length more ≡ run .length = length-listed (groupLength t all g) (pointAt t (saidBy (f .references .0) t payload) g) ∙ sym (ap (λ (r : Run). r .length) er) in
           let points-are : runPoints t run payload bit ≡ more = rw (er, x .place) (points-of-run (f .references .0) t payload g (omega arith)) in
           e ∙ rw (points-are, x .there, place) (flat-over pointOctets 9 size-point lent done more (omega (arith, place, size, within, roomy .room)))

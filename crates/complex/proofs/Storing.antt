@@ -2,14 +2,14 @@
 use mathlib.Core.Path.{_≡_, refl, sym, ap, _∙_}
 use mathlib.Core.List.{List, [], _∷_, _++_, append-nil, flatMap}
 use Prim.Native.Nat.{ℕ, zero, suc, _+_, _*_, _/_, _^_, _≤_, _<_}
-use native.Mathlib.Nat.{zero-mul, add-mul, add-zero, mul-le-mul-right}
+use native.Mathlib.Nat.{zero-mul, add-mul, mul-le-mul-right}
 use native.Mathlib.Omega.{arith}
 use borrow.Author.Tests.{eq-eqb, ne-eqb}
 use lib.ListN.{length, replicate}
 use lib.Seq.{sets, length-sets}
 use Rattle.format.specs.Lists.{listed}
 use Rattle.format.specs.Bits.{numberAt}
-use Rattle.format.specs.Layout.{pointSize, pointOctets, markOf, heldBy, twosComplement}
+use Rattle.format.specs.Layout.{pointOctets}
 use Rattle.format.specs.Unpacking.{decoded, pointOf}
 use Rattle.format.specs.declared.Template.{Template}
 use Rattle.format.specs.declared.DecodedValue.{DecodedValue}

@@ -5,7 +5,7 @@ use Prim.Native.Nat.{ℕ, _+_, _*_, _/_, _^_, _≤_, _<_}
 use native.Mathlib.Omega.{arith}
 use lib.ListN.{length}
 use Rattle.format.specs.Lists.{_over_}
-use Rattle.format.specs.Refusals.{Row, _gives_, first, Left, left}
+use Rattle.format.specs.Refusals.{Row, _gives_, first, left}
 use Rattle.format.specs.Layout.{pointOctets}
 use Rattle.format.specs.Template.{kindRefusals}
 use Rattle.format.specs.Unpacking.{codesOf, pointsBefore, placesOf, saidBy, pointsUpTo, locatedBy, locatedRefusals, countRefusals, roomRefusals, locate52, refusals52, unpack52}
@@ -15,7 +15,6 @@ use Rattle.format.specs.declared.Template.{Template}
 use Rattle.format.specs.declared.Places.{Places}
 use Rattle.format.specs.declared.Located.{Located}
 use Rattle.format.specs.declared.Located.the-variants as located
-use Rattle.format.specs.declared.Unpacked.{Unpacked}
 use Rattle.format.specs.declared.Unpacked.the-variants as unpacked
 use Rattle.laws.specs.First.{Clear, first-joined, first-through, passed, decides, clears, tests}
 use Rattle.group_fields.specs.Walk.{Placed, Passing, Walkable}

@@ -1,8 +1,8 @@
 -- The points that unpacking leaves to be restored: none takes more than 32 bits. Assumes nothing.
 use mathlib.Core.Path.{_≡_, refl, sym, ap, _∙_}
 use mathlib.Core.Bool.{Bool, true, false, cond, _&&_}
-use mathlib.Core.List.{List, [], _∷_, _++_, flatMap}
-use Prim.Native.Nat.{ℕ, zero, suc, _+_, _-_, _*_, _^_, _≤_, _<_}
+use mathlib.Core.List.{List, _++_, flatMap}
+use Prim.Native.Nat.{ℕ, zero, suc, _+_, _-_, _^_, _≤_, _<_}
 use native.Mathlib.Omega.{arith}
 use borrow.Author.Tests.{leb-true, leb-false}
 use lib.Dec.{eqb, ltb, leb}
@@ -10,17 +10,17 @@ use lib.ListN.{length, getD, drop, length-append, List·getD-append}
 use lib.Seq.{getD-append-add, drop-at}
 use lib.IntN.{pos}
 use Rattle.format.specs.Lists.{listed, joined, _over_}
-use Rattle.format.specs.Bits.{numberAt, fieldOf}
+use Rattle.format.specs.Bits.{numberAt}
 use Rattle.format.specs.Layout.{pointOctets}
-use Rattle.format.specs.Template.{valuesAt}
-use Rattle.format.specs.Unpacking.{codesOf, referenceOf, groupWidth, groupLength, pointsBefore, bitsBefore, saidBy, decoded, pointOf, pointAt, pointsUpTo}
+use Rattle.format.specs.Unpacking.{codesOf, referenceOf, groupWidth, groupLength, pointsBefore, saidBy, decoded, pointOf, pointAt, pointsUpTo}
 use Rattle.format.specs.declared.Template.{Template}
 use Rattle.format.specs.declared.DecodedValue.{DecodedValue}
 use Rattle.format.specs.declared.DecodedValue.the-variants.{Normal, Missing1, Missing2}
-use Rattle.laws.specs.Lists.{length-listed, getD-listed, joined-next}
+use Rattle.laws.specs.Lists.{length-listed, getD-listed}
 use Rattle.laws.specs.Bits.{bit-lt, number-below}
+use Rattle.laws.specs.Points.{length-points, valuePlace, point-read}
 use Rattle.complex.specs.Runs.{Roomy}
-use Rattle.complex.proofs.Filling.{reference-low, width-low, length-upto}
+use Rattle.complex.proofs.Filling.{reference-low, width-low}
 use Rattle.diff.specs.Restoring.{Small, Holding}
 
 -- ---- each point of a list
@@ -65,14 +65,12 @@ module _ (start : ℕ) (t : Template) (payload lent : List ℕ) (low : t .width 
   packed = pointsUpTo t (saidBy start t payload) (t .groups)
 
   small-at : (g : ℕ) → g < t .groups → (k : ℕ) → k < groupLength t (codesOf start t payload) g → Small (pointAt t (saidBy start t payload) g k)
-  unfolding pointAt saidBy
   small-at g l k m =
       let codes = codesOf start t payload in
       let w = groupWidth t codes g in
-      let p : ℕ = valuesAt start t * 8 + bitsBefore t codes g in
-      let field : ℕ → List ℕ = λ i. fieldOf payload (valuesAt start t * 8 + bitsBefore t codes i) (groupWidth t codes i) (groupLength t codes i) in
-      rw (getD-listed (t .groups) field [] g l, getD-listed (groupLength t codes g) (λ i. numberAt payload (p + i * w) w) 0 k m)
-      (small-point t w (referenceOf codes g) (numberAt payload (p + k * w) w) (reference-low start t payload g low l) (number-below (bit-lt 8 payload) (p + k * w) w 31 (width-low h g l)))
+      let p = valuePlace start t codes g k in
+      rw (point-read start t payload g k l m)
+      (small-point t w (referenceOf codes g) (numberAt payload p w) (reference-low start t payload g low l) (number-below (bit-lt 8 payload) p w 31 (width-low h g l)))
 
   small-all : AllSmall packed
   unfolding pointsUpTo saidBy
@@ -82,9 +80,10 @@ module _ (start : ℕ) (t : Template) (payload lent : List ℕ) (low : t .width 
 
   -- so the lent octets hold what is to be restored
   pub holding : {declared : ℕ} {octets : List ℕ} → pointsBefore t (codesOf start t payload) (t .groups) ≡ declared → octets ≡ flatMap pointOctets packed over lent → Holding packed declared octets
+  unfolding saidBy
   holding {declared} {octets} count e = record {
-    long = length-upto start t payload (t .groups) ∙ count;
-    small = λ k l. small-all k (omega (arith, length-upto start t payload (t .groups), count));
+    long = length-points t (saidBy start t payload) (t .groups) ∙ count;
+    small = λ k l. small-all k (omega (arith, length-points t (saidBy start t payload) (t .groups), count));
     there =
         e ∙ ap (λ (l : List ℕ). flatMap pointOctets packed ++ l) (sym (drop-at (flatMap pointOctets packed) (drop (length (flatMap pointOctets packed)) lent) (length (flatMap pointOctets packed)) refl))
         ∙ rw e;

@@ -1,24 +1,22 @@
 -- Refusal 12, and what stands in the declared places. Assumes nothing.
 use mathlib.Core.Path.{_≡_, refl, sym, ap, subst, _∙_}
-use mathlib.Core.Bool.{Bool, true, false, not}
+use mathlib.Core.Bool.{Bool, true, false}
 use mathlib.Core.List.{List, [], _∷_, _++_, map, flatMap}
-use Prim.Native.Nat.{ℕ, zero, suc, _+_, _*_, _^_, _≤_, _<_}
+use Prim.Native.Nat.{ℕ, suc, _+_, _*_, _^_, _≤_, _<_}
 use native.Mathlib.Omega.{arith}
 use borrow.Author.Tests.{not-true, not-false}
 use lib.ListN.{length, drop, replicate, length-replicate}
 use lib.Seq.{sets}
 use lib.IntN.{ℤ, pos}
 use Rattle.format.specs.Lists.{anyOf, _over_}
-use Rattle.format.specs.Refusals.{_gives_, first, Left, left}
+use Rattle.format.specs.Refusals.{first, left}
 use Rattle.format.specs.Layout.{pointOctets}
 use Rattle.format.specs.Differences.{descriptorsOf, raised, restored, beyond, left53}
 use Rattle.format.specs.declared.Refusal.the-variants.{Beyond}
 use Rattle.format.specs.declared.Differencing.{Differencing}
 use Rattle.format.specs.declared.DecodedValue.{DecodedValue}
 use Rattle.format.specs.declared.DecodedValue.the-variants.{Normal, Missing1, Missing2}
-use Rattle.format.specs.declared.Unpacked.{Unpacked}
 use Rattle.format.specs.declared.Unpacked.the-variants as unpacked
-use Rattle.laws.specs.Lists.{length-listed}
 use Rattle.laws.specs.Stores.{sets-front, length-flat}
 use Rattle.complex.proofs.Storing.{size-point}
 use Rattle.diff.specs.Restoring.{Holding, Restored, restoredFrom}

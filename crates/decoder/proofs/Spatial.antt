@@ -7,7 +7,7 @@ use lib.Dec.{ltb}
 use lib.ListN.{length, drop}
 use lib.Seq.{drop-at}
 use Rattle.format.specs.Lists.{_over_}
-use Rattle.format.specs.Refusals.{Row, _gives_, first, Left, left}
+use Rattle.format.specs.Refusals.{Row, _gives_, left}
 use Rattle.format.specs.Layout.{pointOctets}
 use Rattle.format.specs.Template.{descriptorsEnd, orderRefusals, kindRefusals, descriptorRefusals}
 use Rattle.format.specs.Unpacking.{codesOf, pointsBefore, saidBy, pointsUpTo, locatedRefusals}
@@ -24,13 +24,13 @@ use Rattle.format.specs.declared.Unpacked.{Unpacked}
 use Rattle.format.specs.declared.Unpacked.the-variants as unpacked
 use Rattle.laws.specs.First.{Clear, clears, tests}
 use Rattle.laws.specs.Lists.{length-over}
+use Rattle.laws.specs.Points.{length-points}
 use Rattle.laws.specs.Stores.{length-flat}
 use Rattle.group_fields.specs.Walk.{Placed, Passing, Walkable}
 use Rattle.group_fields.specs.declared.Fields.{Fields}
 use Rattle.group_fields.proofs.Order.{walkable, descriptors-low}
 use Rattle.complex.specs.Runs.{Roomy}
 use Rattle.complex.proofs.Storing.{size-point}
-use Rattle.complex.proofs.Filling.{length-upto}
 use Rattle.diff.specs.Restoring.{Orderly, Holding, restoredFrom}
 use Rattle.decoder.specs.Deciding.{countedBy, roomyBy}
 use Rattle.decoder.proofs.Deciding.{decided-refused, decided-clear, passes, declared-few, declared-room, declared-count, rooms}
@@ -91,7 +91,8 @@ module _ (t : Template) (d : Differencing) (declared : ℕ) (payload lent : List
           count = declared-count (before53 t d payload) (descriptorsEnd d) t declared payload lent clear-53
 
           long : length points-of ≡ declared
-          long = length-upto (descriptorsEnd d) t payload (t .groups) ∙ count
+          unfolding saidBy
+          long = length-points t (saidBy (descriptorsEnd d) t payload) (t .groups) ∙ count
 
           past : drop (declared * 9) packed ≡ drop (declared * 9) lent
           past =

@@ -1,7 +1,7 @@
 -- Deciding, from where the parts are to whether there is room. Assumes nothing.
 use Prim.Native.Nat.{ℕ, _/_}
 use mathlib.Core.Bool.{not}
-use mathlib.Core.List.{List, [], _∷_}
+use mathlib.Core.List.{[], _∷_}
 use lib.Dec.{eqb, ltb}
 use Rattle.format.specs.Layout.{pointSize}
 use Rattle.format.specs.Refusals.{_gives_, first}

@@ -9,3 +9,4 @@ pub mod Written
 pub mod Fields
 pub mod Stores
 pub mod Signed
+pub mod Points
