@@ -42,21 +42,22 @@ fn decoded(template: Template, width: usize, value: u32, number: u32) -> Decoded
     requires { ⌜ width ≤ 31 ⌝ }
     ensures { λ r. ⌜ r ≡ decoded template width value number ⌝ }
 {
+    let point = normal(number);
     let management = template.management;
     if management == 0 {
-        return normal(number);
+        return point;
     }
     let greatest = places::power(width) - 1;
     if wide(value) == greatest {
         return DecodedValue::Missing1;
     }
     if management != 2 {
-        return normal(number);
+        return point;
     }
     if wide(value) + 1 == greatest {
         return DecodedValue::Missing2;
     }
-    normal(number)
+    point
 }
 
 // One point in as many places as are asked for.

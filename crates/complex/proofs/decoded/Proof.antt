@@ -23,12 +23,9 @@ wide-requires c κs = search needs
 returns-2 : tie.Need-returns-2
 returns-2 c = search decoded-first
 
-normal-requires-2 : tie.Need-normal-requires-2
-normal-requires-2 c κs = search needs
-
 returns-3 : tie.Need-returns-3
 returns-3 c =
-    decoded-once _ _ _ _ (c .before .before .before .before .before .if1 .left) (c .before .before .before .before .power .ensures) (c .before .before .before .wide .ensures) (c .before .before .if2 .left) (c .before .if3 .taken) (c .normal2 .ensures)
+    decoded-once _ _ _ _ (c .before .before .before .before .if1 .left) (c .before .before .before .power .ensures) (c .before .before .wide .ensures) (c .before .if2 .left) (c .if3 .taken) (c .before .before .before .before .before .normal .ensures)
 
 wide-requires-2 : tie.Need-wide-requires-2
 wide-requires-2 c κs = search needs
@@ -40,12 +37,9 @@ returns-4 : tie.Need-returns-4
 returns-4 c =
     decoded-second _ _ _ _ (c .before .before .before .before .before .before .if1 .left) (c .before .before .before .before .before .power .ensures) (c .before .before .before .before .wide .ensures) (c .before .before .before .if2 .left) (c .before .before .if3 .left) (c .before .wide2 .ensures) (c .if4 .taken)
 
-normal-requires-3 : tie.Need-normal-requires-3
-normal-requires-3 c κs = search needs
-
 returns-5 : tie.Need-returns-5
 returns-5 c =
-    decoded-number _ _ _ _ (c .before .before .before .before .before .before .before .if1 .left) (c .before .before .before .before .before .before .power .ensures) (c .before .before .before .before .before .wide .ensures) (c .before .before .before .before .if2 .left) (c .before .before .wide2 .ensures) (c .before .if4 .left) (c .normal3 .ensures)
+    decoded-number _ _ _ _ (c .before .before .before .before .before .before .if1 .left) (c .before .before .before .before .before .power .ensures) (c .before .before .before .before .wide .ensures) (c .before .before .before .if2 .left) (c .before .wide2 .ensures) (c .if4 .left) (c .before .before .before .before .before .before .before .normal .ensures)
 
 pub decoded-spec : {M : Type 1} → statement M
 decoded-spec =
@@ -57,10 +51,8 @@ decoded-spec =
     sub-greatest
     wide-requires
     returns-2
-    normal-requires-2
     returns-3
     wide-requires-2
     add-if4
     returns-4
-    normal-requires-3
     returns-5)
