@@ -9,8 +9,8 @@ abbrev pub called : {Answer : Type 0} → (Answer → ℕ) → Left Answer → L
 called number outcome = left (number (outcome .answer)) (outcome .buffer)
 
 -- the template numbers as the calls take them, in Section 5's order
-abbrev pub templateOf : ℕ → ℕ → ℕ → ℕ → ℕ → ℕ → ℕ → ℕ → ℕ → ℕ → Template
-templateOf bits splitting missing groups widthref widthbits lenref leninc lenlast lenbits = record {
+abbrev pub givenTemplate : ℕ → ℕ → ℕ → ℕ → ℕ → ℕ → ℕ → ℕ → ℕ → ℕ → Template
+givenTemplate bits splitting missing groups widthref widthbits lenref leninc lenlast lenbits = record {
   width = bits;
   splitting = splitting;
   management = missing;
@@ -19,5 +19,5 @@ templateOf bits splitting missing groups widthref widthbits lenref leninc lenlas
   lengths = record { reference = lenref; increment = leninc; last = lenlast; bits = lenbits };
 }
 
-abbrev pub differencingOf : ℕ → ℕ → Differencing
-differencingOf order octets = record { order = order; octets = octets }
+abbrev pub givenDifferencing : ℕ → ℕ → Differencing
+givenDifferencing order octets = record { order = order; octets = octets }

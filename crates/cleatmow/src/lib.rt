@@ -1,11 +1,11 @@
-// The C calls: each a few lines over the crates below. include/cleatmow.h declares them; where a name has an underscore
-// there, it has none here, so that a contract can name it.
+// The C calls: each a few lines over the crates below. include/cleatmow.h declares them. A contract can name no underscore,
+// so the names of the header are shortened here.
 ghost use mathlib.Core.Path.{_≡_};
 ghost use Rattle.format.specs.Refusals.{refusalNumber, unpackedNumber, unrolledNumber, left};
 ghost use Rattle.format.specs.Unpacking.{unpack52};
 ghost use Rattle.format.specs.Differences.{unpack53};
 ghost use Rattle.format.specs.RunLength.{runLength};
-ghost use Rattle.cleatmow.specs.Calls.{called, templateOf, differencingOf};
+ghost use Rattle.cleatmow.specs.Calls.{called, givenTemplate, givenDifferencing};
 use format::Differencing;
 use format::Lengths;
 use format::Refusal;
@@ -48,7 +48,7 @@ fn template_of(
     lenlast: u32,
     lenbits: u8,
 ) -> Template
-    ensures { λ r. ⌜ r ≡ templateOf bits splitting missing groups widthref widthbits lenref leninc lenlast lenbits ⌝ }
+    ensures { λ r. ⌜ r ≡ givenTemplate bits splitting missing groups widthref widthbits lenref leninc lenlast lenbits ⌝ }
 {
     let widths = Widths {
         reference: widthref,
@@ -97,7 +97,7 @@ pub extern "C" fn cleatmow_unpack_complex(
     payload: &[u8],
     points: &mut [u8],
 ) -> u32
-    ensures { λ r. ⌜ left r (now (points .exit)) ≡ called unpackedNumber (unpack52 (templateOf bits splitting missing groups widthref widthbits lenref leninc lenlast lenbits) declared (now (payload .entry)) (now (points .entry))) ⌝ }
+    ensures { λ r. ⌜ left r (now (points .exit)) ≡ called unpackedNumber (unpack52 (givenTemplate bits splitting missing groups widthref widthbits lenref leninc lenlast lenbits) declared (now (payload .entry)) (now (points .entry))) ⌝ }
 {
     let template = template_of(
         bits,
@@ -133,7 +133,7 @@ pub extern "C" fn cleatmow_unpack_spatial(
     payload: &[u8],
     points: &mut [u8],
 ) -> u32
-    ensures { λ r. ⌜ left r (now (points .exit)) ≡ called unpackedNumber (unpack53 (templateOf bits splitting missing groups widthref widthbits lenref leninc lenlast lenbits) (differencingOf order octets) declared (now (payload .entry)) (now (points .entry))) ⌝ }
+    ensures { λ r. ⌜ left r (now (points .exit)) ≡ called unpackedNumber (unpack53 (givenTemplate bits splitting missing groups widthref widthbits lenref leninc lenlast lenbits) (givenDifferencing order octets) declared (now (payload .entry)) (now (points .entry))) ⌝ }
 {
     let template = template_of(
         bits,

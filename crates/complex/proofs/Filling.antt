@@ -18,17 +18,16 @@ use Rattle.format.specs.declared.Template.{Template}
 use Rattle.format.specs.declared.DecodedValue.{DecodedValue}
 use Rattle.laws.specs.Lists.{length-listed, getD-listed, listed-ext, any-none, either-left, total-next, joined-next}
 use Rattle.laws.specs.Bits.{bit-lt, number-below}
-use Rattle.laws.specs.Points.{length-points, points-within, point-read}
+use Rattle.laws.specs.Points.{size-point, length-points, points-within, point-read}
 use Rattle.laws.specs.Stores.{flat-over}
 use Rattle.group_fields.specs.Walk.{Walkable}
 use Rattle.group_fields.specs.declared.Fields.{Fields}
-use Rattle.complex.specs.declared.Run.{Run}
-use Rattle.complex.specs.Runs.{runAt, runPoints, Narrow, Roomy}
-use Rattle.complex.proofs.Storing.{size-point}
+use Rattle.complex.specs.declared.PackedGroup.{PackedGroup}
+use Rattle.complex.specs.Groups.{groupAt, groupPoints, Narrow, Roomy}
 
-pub run-is : (codes : Codes) (t : Template) (g : ℕ) {reference width length : ℕ} → reference ≡ referenceOf codes g → width ≡ groupWidth t codes g → length ≡ groupLength t codes g
-    → record { reference = reference; width = width; length = length } ≡ runAt t codes g
-run-is codes t g er ew el = rw (er, ew, el)
+pub group-is : (codes : Codes) (t : Template) (g : ℕ) {reference width length : ℕ} → reference ≡ referenceOf codes g → width ≡ groupWidth t codes g → length ≡ groupLength t codes g
+    → record { reference = reference; width = width; length = length } ≡ groupAt t codes g
+group-is codes t g er ew el = rw (er, ew, el)
 
 -- ---- what a group that is not refused has
 
@@ -72,27 +71,27 @@ filling-start w payload lent e = record {
 }
 
 -- a group's points, as the definition has them
-points-of-run : (start : ℕ) (t : Template) (payload : List ℕ) (g : ℕ) → g < t .groups
-    → runPoints t (runAt t (codesOf start t payload) g) payload (valuesAt start t * 8 + bitsBefore t (codesOf start t payload) g)
+points-of-group : (start : ℕ) (t : Template) (payload : List ℕ) (g : ℕ) → g < t .groups
+    → groupPoints t (groupAt t (codesOf start t payload) g) payload (valuesAt start t * 8 + bitsBefore t (codesOf start t payload) g)
     ≡ listed (groupLength t (codesOf start t payload) g) (pointAt t (saidBy start t payload) g)
-points-of-run start t payload g l = listed-ext (groupLength t (codesOf start t payload) g) _ _ (λ k m. sym (point-read start t payload g k l m))
+points-of-group start t payload g l = listed-ext (groupLength t (codesOf start t payload) g) _ _ (λ k m. sym (point-read start t payload g k l m))
 
 module _ {t : Template} {f : Fields} (walkable : Walkable t f) {payload lent points : List ℕ} {bit k g n : ℕ} (roomy : Roomy (f .references .0) t payload lent)
     (x : Filling (f .references .0) t payload lent points bit k g) (en : (n ≡ t .groups) × (n < 2 ^ 32)) where
   abbrev all : Codes
   all = codesOf (f .references .0) t payload
 
-  module _ (l : g < n) {run : Run} (er : run ≡ runAt t all g) where
-    within : k + run .length ≤ pointsBefore t all (t .groups)
+  module _ (l : g < n) {group : PackedGroup} (er : group ≡ groupAt t all g) where
+    within : k + group .length ≤ pointsBefore t all (t .groups)
     within = rw er (omega (arith, points-within t all (t .groups) g (omega arith), x .count))
 
-    pub filling-few : k + run .length ≤ 4194304
+    pub filling-few : k + group .length ≤ 4194304
     filling-few = omega (arith, within, roomy .few)
 
-    narrow-width : run .width ≤ 31
+    narrow-width : group .width ≤ 31
     narrow-width = rw er (width-low roomy g (omega arith))
 
-    pub filling-narrow : Narrow run bit
+    pub filling-narrow : Narrow group bit
     filling-narrow = record {
       reference = rw er (reference-low (f .references .0) t payload g (walkable .passing .width) (omega arith));
       width = narrow-width;
@@ -100,24 +99,24 @@ module _ {t : Template} {f : Fields} (walkable : Walkable t f) {payload lent poi
       place = omega (arith, within, roomy .few, x .low, walkable .placed .values, walkable .placed .values-low);
     }
 
-    pub filling-room : (k + run .length) * 9 ≤ length points
+    pub filling-room : (k + group .length) * 9 ≤ length points
     filling-room = omega (arith, within, roomy .room, x .long)
 
-    pub filling-more : {points′ : List ℕ} {area : ℕ} → points′ ≡ sets points (k * 9) (flatMap pointOctets (runPoints t run payload bit)) → (area ≡ run .length * run .width) × (area < 2 ^ 40)
-        → Filling (f .references .0) t payload lent points′ (bit + area) (k + run .length) (g + 1)
+    pub filling-more : {points′ : List ℕ} {area : ℕ} → points′ ≡ sets points (k * 9) (flatMap pointOctets (groupPoints t group payload bit)) → (area ≡ group .length * group .width) × (area < 2 ^ 40)
+        → Filling (f .references .0) t payload lent points′ (bit + area) (k + group .length) (g + 1)
     unfolding pointsBefore bitsBefore pointsUpTo saidBy
     filling-more {points′} {area} e ea = record {
       some = omega arith;
       count = rw (er, total-next g (groupLength t all)) (ap (λ (i : ℕ). i + groupLength t all g) (x .count));
       place = rw (ea .0, er, total-next g (λ i. groupLength t all i * groupWidth t all i)) (omega (arith, x .place));
-      low = omega (arith, x .low, mul-le-mul-left (run .length) narrow-width);
-      long = ap length e ∙ length-sets points (k * 9) (flatMap pointOctets (runPoints t run payload bit)) ∙ x .long;
+      low = omega (arith, x .low, mul-le-mul-left (group .length) narrow-width);
+      long = ap length e ∙ length-sets points (k * 9) (flatMap pointOctets (groupPoints t group payload bit)) ∙ x .long;
       there =
           let done = pointsUpTo t (saidBy (f .references .0) t payload) g in
           let more = listed (groupLength t all g) (pointAt t (saidBy (f .references .0) t payload) g) in
           let place : k ≡ length done = x .count ∙ sym (length-points t (saidBy (f .references .0) t payload) g) in
-          let size : length more ≡ run .length = length-listed (groupLength t all g) (pointAt t (saidBy (f .references .0) t payload) g) ∙ sym (ap (λ (r : Run). r .length) er) in
-          let points-are : runPoints t run payload bit ≡ more = rw (er, x .place) (points-of-run (f .references .0) t payload g (omega arith)) in
+          let size : length more ≡ group .length = length-listed (groupLength t all g) (pointAt t (saidBy (f .references .0) t payload) g) ∙ sym (ap (λ (r : PackedGroup). r .length) er) in
+          let points-are : groupPoints t group payload bit ≡ more = rw (er, x .place) (points-of-group (f .references .0) t payload g (omega arith)) in
           e ∙ rw (points-are, x .there, place) (flat-over pointOctets 9 size-point lent done more (omega (arith, place, size, within, roomy .room)))
           ∙ ap (λ (l : List DecodedValue). flatMap pointOctets l over lent) (sym (joined-next g (λ i. listed (groupLength t all i) (pointAt t (saidBy (f .references .0) t payload) i))));
     }

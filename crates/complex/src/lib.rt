@@ -12,14 +12,14 @@ ghost use Rattle.format.specs.Layout.{pointSize, pointOctets};
 ghost use Rattle.format.specs.Unpacking.{codesOf, saidBy, decoded, pointsUpTo};
 ghost use Rattle.format.specs.declared.DecodedValue.the-variants.{Normal};
 ghost use Rattle.group_fields.specs.Walk.{Walkable};
-ghost use Rattle.complex.specs.Runs.{runAt, runPoints, Narrow, Roomy};
+ghost use Rattle.complex.specs.Groups.{groupAt, groupPoints, Narrow, Roomy};
 use format::BitPlace;
 use format::DecodedValue;
 use format::Template;
 use group_fields::Fields;
 
 // A group: its reference, its width and its length.
-pub struct Run {
+pub struct PackedGroup {
     pub reference: u32,
     pub width: usize,
     pub length: usize,
@@ -29,12 +29,6 @@ fn normal(number: u32) -> DecodedValue
     ensures { λ r. ⌜ r ≡ Normal (pos number) ⌝ }
 {
     DecodedValue::Normal(number as i64)
-}
-
-fn wide(value: u32) -> u64
-    ensures { λ r. ⌜ (r ≡ value) × (r < 2 ^ 32) ⌝ }
-{
-    value as u64
 }
 
 // "value 2^w − 1 is missing 1 if m > 0; else 2^w − 2 is missing 2 if m = 2; else the number"
@@ -48,13 +42,13 @@ fn decoded(template: Template, width: usize, value: u32, number: u32) -> Decoded
         return point;
     }
     let greatest = places::power(width) - 1;
-    if wide(value) == greatest {
+    if places::grown(value) == greatest {
         return DecodedValue::Missing1;
     }
     if management != 2 {
         return point;
     }
-    if wide(value) + 1 == greatest {
+    if places::grown(value) + 1 == greatest {
         return DecodedValue::Missing2;
     }
     point
@@ -88,53 +82,53 @@ fn store_values(
     template: Template,
     payload: &[u8],
     place: BitPlace,
-    run: Run,
+    group: PackedGroup,
     there: bool,
     points: &mut [u8],
     from: usize,
 )
-    requires { ⌜ Narrow run (place .0) × (0 < run .width) × (there ≡ true → (place .0 + run .length * run .width) / 8 + 8 ≤ length (now payload)) × ((from + run .length) * pointSize ≤ length (now points)) ⌝ }
-    ensures { λ _. ⌜ now (points .exit) ≡ sets (now (points .entry)) (from * pointSize) (flatMap pointOctets (runPoints template run (now (payload .entry)) (place .0))) ⌝ }
+    requires { ⌜ Narrow group (place .0) × (0 < group .width) × (there ≡ true → (place .0 + group .length * group .width) / 8 + 8 ≤ length (now payload)) × ((from + group .length) * pointSize ≤ length (now points)) ⌝ }
+    ensures { λ _. ⌜ now (points .exit) ≡ sets (now (points .entry)) (from * pointSize) (flatMap pointOctets (groupPoints template group (now (payload .entry)) (place .0))) ⌝ }
 {
     let mut bit = place.0;
     let mut k = 0usize;
-    while k < run.length {
-        let value = read_value(payload, BitPlace(bit), run.width, there);
-        let point = decoded(template, run.width, value, value + run.reference);
+    while k < group.length {
+        let value = read_value(payload, BitPlace(bit), group.width, there);
+        let point = decoded(template, group.width, value, value + group.reference);
         layout::store_point(points, from + k, point);
-        bit += run.width;
+        bit += group.width;
         k += 1;
     }
 }
 
 // "In a group of width 0 the same tests apply to the reference at the number width, and the number is the reference."
-fn store_run(
+fn store_group(
     template: Template,
     payload: &[u8],
     place: BitPlace,
-    run: Run,
+    group: PackedGroup,
     points: &mut [u8],
     from: usize,
 )
-    requires { ⌜ (template .width ≤ 31) × Narrow run (place .0) × ((from + run .length) * pointSize ≤ length (now points)) ⌝ }
-    ensures { λ _. ⌜ now (points .exit) ≡ sets (now (points .entry)) (from * pointSize) (flatMap pointOctets (runPoints template run (now (payload .entry)) (place .0))) ⌝ }
+    requires { ⌜ (template .width ≤ 31) × Narrow group (place .0) × ((from + group .length) * pointSize ≤ length (now points)) ⌝ }
+    ensures { λ _. ⌜ now (points .exit) ≡ sets (now (points .entry)) (from * pointSize) (flatMap pointOctets (groupPoints template group (now (payload .entry)) (place .0))) ⌝ }
 {
-    if run.width == 0 {
-        let width = group_fields::small(template.width);
-        let point = decoded(template, width, run.reference, run.reference);
-        store_same(points, from, run.length, point);
+    if group.width == 0 {
+        let width = places::small(template.width);
+        let point = decoded(template, width, group.reference, group.reference);
+        store_same(points, from, group.length, point);
         return;
     }
-    let end = BitPlace(place.0 + group_fields::times(run.length, run.width));
+    let end = BitPlace(place.0 + group_fields::times(group.length, group.width));
     let there = places::octet_of(end).0 + 8 <= payload.len();
-    store_values(template, payload, place, run, there, points, from);
+    store_values(template, payload, place, group, there, points, from);
 }
 
-fn run_of(template: Template, payload: &[u8], fields: Fields, g: usize) -> Run
+fn group_of(template: Template, payload: &[u8], fields: Fields, g: usize) -> PackedGroup
     requires { ⌜ Walkable template fields × (g < template .groups) ⌝ }
-    ensures { λ r. ⌜ r ≡ runAt template (codesOf (fields .references .0) template (now (payload .entry))) g ⌝ }
+    ensures { λ r. ⌜ r ≡ groupAt template (codesOf (fields .references .0) template (now (payload .entry))) g ⌝ }
 {
-    Run {
+    PackedGroup {
         reference: group_fields::reference_of(template, payload, fields, g) as u32,
         width: group_fields::width_of(template, payload, fields, g),
         length: group_fields::length_of(template, payload, fields, g),
@@ -146,15 +140,15 @@ pub fn store_points(template: Template, payload: &[u8], fields: Fields, points: 
     requires { ⌜ Walkable template fields × Roomy (fields .references .0) template (now payload) (now points) ⌝ }
     ensures { λ _. ⌜ now (points .exit) ≡ flatMap pointOctets (pointsUpTo template (saidBy (fields .references .0) template (now (payload .entry))) (template .groups)) over now (points .entry) ⌝ }
 {
-    let groups = group_fields::size(template.groups);
+    let groups = places::size(template.groups);
     let mut bit = places::first_bit(fields.values).0;
     let mut k = 0usize;
     let mut g = 0usize;
     while g < groups {
-        let run = run_of(template, payload, fields, g);
-        store_run(template, payload, BitPlace(bit), run, points, k);
-        bit += group_fields::times(run.length, run.width);
-        k += run.length;
+        let group = group_of(template, payload, fields, g);
+        store_group(template, payload, BitPlace(bit), group, points, k);
+        bit += group_fields::times(group.length, group.width);
+        k += group.length;
         g += 1;
     }
 }

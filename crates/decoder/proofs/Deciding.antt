@@ -20,8 +20,8 @@ use Rattle.laws.specs.First.{Clear, first-joined, first-through, passed, decide
 use Rattle.group_fields.specs.Walk.{Placed, Passing, Walkable}
 use Rattle.group_fields.specs.declared.Fields.{Fields}
 use Rattle.group_fields.proofs.Order.{walkable}
-use Rattle.complex.specs.Runs.{Roomy}
-use Rattle.decoder.specs.Deciding.{countedBy, roomyBy}
+use Rattle.complex.specs.Groups.{Roomy}
+use Rattle.decoder.specs.Deciding.{countedBy, roomyBy, decidedBy}
 
 -- ---- 9, then 10
 
@@ -35,43 +35,43 @@ module _ (declared : ℕ) {x : Located} {places : Places} {points : ℕ} (e : x 
   pub counted-right : {n : ℕ} → (n ≡ declared) × (n < 2 ^ 32) → points ≡ n → declared ≤ 4194304 → located.At places points ≡ countedBy declared x
   counted-right en h l = rw e (clears located.Refused _ _ (omega (arith, tests)))
 
-  pub roomy-short : (octets : ℕ) {n : ℕ} → (n ≡ declared) × (n < 2 ^ 32) → octets / 9 < n → located.Refused Room ≡ roomyBy declared octets x
+  pub roomy-short : (octets : ℕ) {n : ℕ} → (n ≡ declared) × (n < 2 ^ 32) → octets / 9 < n → located.Refused Room ≡ roomyBy octets declared x
   roomy-short octets en l = rw e (decides located.Refused Room _ _ (omega (arith, tests)))
 
-  pub roomy-right : (octets : ℕ) {n : ℕ} → (n ≡ declared) × (n < 2 ^ 32) → n ≤ octets / 9 → located.At places points ≡ roomyBy declared octets x
+  pub roomy-right : (octets : ℕ) {n : ℕ} → (n ≡ declared) × (n < 2 ^ 32) → n ≤ octets / 9 → located.At places points ≡ roomyBy octets declared x
   roomy-right octets en l = rw e (clears located.Refused _ _ (omega (arith, tests)))
 
 -- ---- one function after the other decides what the joined rows decide
 
 module _ (rows : List Row) (start : ℕ) (t : Template) (declared : ℕ) (payload lent : List ℕ) where
+  abbrev points : ℕ
+  points = pointsBefore t (codesOf start t payload) (t .groups)
+
   abbrev all : List Row
-  all = rows ++ countRefusals start t declared payload ++ roomRefusals declared lent
+  all = rows ++ countRefusals points declared ++ roomRefusals (length lent) declared
 
-  decided : roomyBy declared (length lent) (countedBy declared (locatedBy rows start t payload)) ≡ locatedBy all start t payload
-  decided =
-      let codes = codesOf start t payload in
-      let at : Located = located.At (placesOf start t codes) (pointsBefore t codes (t .groups)) in
-      let f : Located → Located = λ x. roomyBy declared (length lent) (countedBy declared x) in
-      first-through located.Refused located.Refused f (λ r. refl) rows at
-      ∙ ap (first located.Refused rows) (first-through located.Refused located.Refused (roomyBy declared (length lent)) (λ r. refl) (countRefusals start t declared payload) at)
-      ∙ sym (first-joined located.Refused (rows ++ countRefusals start t declared payload) (roomRefusals declared lent) at
-      ∙ first-joined located.Refused rows (countRefusals start t declared payload) (first located.Refused (roomRefusals declared lent) at))
+  joined-decided : decidedBy (length lent) declared (locatedBy rows start t payload) ≡ locatedBy all start t payload
+  joined-decided =
+      let at : Located = located.At (placesOf start t (codesOf start t payload)) points in
+      first-through located.Refused located.Refused (decidedBy (length lent) declared) (λ r. refl) rows at
+      ∙ ap (first located.Refused rows) (first-through located.Refused located.Refused (roomyBy (length lent) declared) (λ r. refl) (countRefusals points declared) at)
+      ∙ sym (first-joined located.Refused (rows ++ countRefusals points declared) (roomRefusals (length lent) declared) at
+      ∙ first-joined located.Refused rows (countRefusals points declared) (first located.Refused (roomRefusals (length lent) declared) at))
 
-  module _ {x counted roomy : Located} (e : x ≡ locatedBy rows start t payload) (ec : counted ≡ countedBy declared x) (er : roomy ≡ roomyBy declared (length lent) counted) where
-    pub decided-is : roomy ≡ locatedBy all start t payload
-    decided-is = er ∙ rw (ec, e) decided
+  module _ {x y : Located} (e : x ≡ locatedBy rows start t payload) (ed : y ≡ decidedBy (length lent) declared x) where
+    decided-is : y ≡ locatedBy all start t payload
+    decided-is = ed ∙ rw e joined-decided
 
     -- a refusal is that of any operation with these rows
-    pub decided-refused : {A : Type 0} (refused : Refusal → A) (a : A) {r : Refusal} → roomy ≡ located.Refused r → refused r ≡ first refused all a
-    decided-refused {A} refused a {r} d =
-        ap (made a) (sym d ∙ decided-is) ∙ first-through located.Refused refused (made a) (λ q. refl) all _
+    pub decided-refused : {A : Type 0} (refused : Refusal → A) (a : A) {r : Refusal} → y ≡ located.Refused r → refused r ≡ first refused all a
+    decided-refused {A} refused a {r} d = ap (made a) (sym d ∙ decided-is) ∙ first-through located.Refused refused (made a) (λ q. refl) all _
       where
         made : A → Located → A
         made a (located.At places points) = a
         made a (located.Refused q) = refused q
 
     -- and where nothing is refused no row holds
-    pub decided-clear : {places : Places} {points : ℕ} → roomy ≡ located.At places points → Clear all
+    pub decided-clear : {places : Places} {points : ℕ} → y ≡ located.At places points → Clear all
     decided-clear d = passed located.Refused all _ (sym d ∙ decided-is) (λ r z. (let q : _≡_ {A = ℕ} 0 1 = cc in omega arith)) .0
 
 -- ---- what unpacking may then do
@@ -80,9 +80,9 @@ clear-last : (rows a b c : List Row) → Clear (rows ++ a ++ b ++ c) → Clear (
 clear-last [] a b c h = h
 clear-last (t gives r ∷ rows) a b c h = clear-last rows a b c (h .1)
 
-module _ (rows : List Row) (start : ℕ) (t : Template) (declared : ℕ) (payload lent : List ℕ) (clear : Clear (rows ++ locatedRefusals start t payload ++ countRefusals start t declared payload ++ roomRefusals declared lent)) where
-  later : Clear (locatedRefusals start t payload ++ countRefusals start t declared payload ++ roomRefusals declared lent)
-  later = clear-last rows (locatedRefusals start t payload) (countRefusals start t declared payload) (roomRefusals declared lent) clear
+module _ (rows : List Row) (start : ℕ) (t : Template) (declared : ℕ) (payload lent : List ℕ) (clear : Clear (rows ++ locatedRefusals start t payload ++ countRefusals (pointsBefore t (codesOf start t payload) (t .groups)) declared ++ roomRefusals (length lent) declared)) where
+  later : Clear (locatedRefusals start t payload ++ countRefusals (pointsBefore t (codesOf start t payload) (t .groups)) declared ++ roomRefusals (length lent) declared)
+  later = clear-last rows (locatedRefusals start t payload) (countRefusals (pointsBefore t (codesOf start t payload) (t .groups)) declared) (roomRefusals (length lent) declared) clear
 
   pub passes : Passing t
   passes =
@@ -106,28 +106,31 @@ module _ (rows : List Row) (start : ℕ) (t : Template) (declared : ℕ) (payloa
 
 -- ---- under 5.2
 
-module _ (t : Template) (declared : ℕ) (payload lent : List ℕ) {x counted roomy : Located}
-    (e : x ≡ locate52 t payload) (ec : counted ≡ countedBy declared x) (er : roomy ≡ roomyBy declared (length lent) counted) where
-  pub refused-52 : {r : Refusal} → roomy ≡ located.Refused r → left (unpacked.Refused r) lent ≡ unpack52 t declared payload lent
+-- an input that is not refused
+pub record Accepted52 (t : Template) (declared : ℕ) (payload lent : List ℕ) : Type 0 where
+  pub clear : Clear (refusals52 t declared payload lent)
+
+module _ (t : Template) (declared : ℕ) (payload lent : List ℕ) {x y : Located} (e : x ≡ locate52 t payload) (ed : y ≡ decidedBy (length lent) declared x) where
+  pub refused-52 : {r : Refusal} → y ≡ located.Refused r → left (unpacked.Refused r) lent ≡ unpack52 t declared payload lent
   unfolding unpack52 locate52
-  refused-52 d = decided-refused (kindRefusals t ++ locatedRefusals 0 t payload) 0 t declared payload lent e ec er (λ r. left (unpacked.Refused r) lent) _ d
+  refused-52 d = decided-refused (kindRefusals t ++ locatedRefusals 0 t payload) 0 t declared payload lent e ed (λ r. left (unpacked.Refused r) lent) _ d
 
-  module _ {places : Places} {points : ℕ} (d : roomy ≡ located.At places points) where
-    clear-52 : Clear (refusals52 t declared payload lent)
-    unfolding locate52
-    clear-52 = decided-clear (kindRefusals t ++ locatedRefusals 0 t payload) 0 t declared payload lent e ec er d
+  pub accepted-52 : {places : Places} {points : ℕ} → y ≡ located.At places points → Accepted52 t declared payload lent
+  unfolding locate52
+  accepted-52 d = record { clear = decided-clear (kindRefusals t ++ locatedRefusals 0 t payload) 0 t declared payload lent e ed d }
 
-    pub passing-52 : Passing t
-    passing-52 = passes (kindRefusals t) 0 t declared payload lent clear-52
+module _ {t : Template} {declared : ℕ} {payload lent : List ℕ} (a : Accepted52 t declared payload lent) where
+  pub passing-52 : Passing t
+  passing-52 = passes (kindRefusals t) 0 t declared payload lent (a .clear)
 
-    module _ {f : Fields} (placed : Placed 0 t f) where
-      pub walkable-52 : Walkable t f
-      walkable-52 = walkable placed passing-52
+  module _ {f : Fields} (placed : Placed 0 t f) where
+    pub walkable-52 : Walkable t f
+    walkable-52 = walkable placed passing-52
 
-      pub roomy-52 : Roomy (f .references .0) t payload lent
-      roomy-52 = rooms (kindRefusals t) 0 t declared payload lent clear-52 (placed .references)
+    pub roomy-52 : Roomy (f .references .0) t payload lent
+    roomy-52 = rooms (kindRefusals t) 0 t declared payload lent (a .clear) (placed .references)
 
-      pub done-52 : {after : List ℕ} → after ≡ flatMap pointOctets (pointsUpTo t (saidBy (f .references .0) t payload) (t .groups)) over lent
-          → left (unpacked.Points declared) after ≡ unpack52 t declared payload lent
-      unfolding unpack52
-      done-52 ea = ap (left (unpacked.Points declared)) (rw (placed .references) at ea) ∙ clears (λ r. left (unpacked.Refused r) lent) (refusals52 t declared payload lent) _ clear-52
+    pub done-52 : {after : List ℕ} → after ≡ flatMap pointOctets (pointsUpTo t (saidBy (f .references .0) t payload) (t .groups)) over lent
+        → left (unpacked.Points declared) after ≡ unpack52 t declared payload lent
+    unfolding unpack52
+    done-52 ea = ap (left (unpacked.Points declared)) (rw (placed .references) at ea) ∙ clears (λ r. left (unpacked.Refused r) lent) (refusals52 t declared payload lent) _ (a .clear)

@@ -19,7 +19,7 @@ use Rattle.format.specs.declared.DecodedValue.the-variants.{Normal, Missing1, M
 use Rattle.laws.specs.Lists.{length-listed, getD-listed}
 use Rattle.laws.specs.Bits.{bit-lt, number-below}
 use Rattle.laws.specs.Points.{length-points, valuePlace, point-read}
-use Rattle.complex.specs.Runs.{Roomy}
+use Rattle.complex.specs.Groups.{Roomy}
 use Rattle.complex.proofs.Filling.{reference-low, width-low}
 use Rattle.diff.specs.Restoring.{Small, Holding}
 

@@ -11,21 +11,22 @@ use lib.IntN.{ℤ, pos}
 use Rattle.format.specs.Lists.{anyOf, _over_}
 use Rattle.format.specs.Refusals.{first, left}
 use Rattle.format.specs.Layout.{pointOctets}
-use Rattle.format.specs.Differences.{descriptorsOf, raised, restored, beyond, left53}
+use Rattle.format.specs.Differences.{descriptorsOf, raised, restored, restoredFrom, beyond, left53}
 use Rattle.format.specs.declared.Refusal.the-variants.{Beyond}
 use Rattle.format.specs.declared.Differencing.{Differencing}
 use Rattle.format.specs.declared.DecodedValue.{DecodedValue}
 use Rattle.format.specs.declared.DecodedValue.the-variants.{Normal, Missing1, Missing2}
 use Rattle.format.specs.declared.Unpacked.the-variants as unpacked
-use Rattle.laws.specs.Stores.{sets-front, length-flat}
-use Rattle.complex.proofs.Storing.{size-point}
-use Rattle.diff.specs.Restoring.{Holding, Restored, restoredFrom}
+use Rattle.laws.specs.Lists.{length-map}
+use Rattle.laws.specs.Points.{size-points}
+use Rattle.laws.specs.Stores.{sets-front}
+use Rattle.diff.specs.Restoring.{Holding, Restored}
 
 -- ---- what is over one buffer is over another that is the same past it
 
 over-same : (xs : List DecodedValue) (n : ℕ) (l r : List ℕ) → length xs ≡ n → drop (n * 9) l ≡ drop (n * 9) r → flatMap pointOctets xs over l ≡ flatMap pointOctets xs over r
 over-same xs n l r e d =
-    let size : length (flatMap pointOctets xs) ≡ n * 9 = length-flat pointOctets 9 size-point xs ∙ ap (λ (m : ℕ). m * 9) e in
+    let size : length (flatMap pointOctets xs) ≡ n * 9 = size-points xs ∙ ap (λ (m : ℕ). m * 9) e in
     rw size (ap (λ (z : List ℕ). flatMap pointOctets xs ++ z) d)
 
 pub left53-same : (declared : ℕ) (points : List DecodedValue) (l r : List ℕ) → length points ≡ declared → drop (declared * 9) l ≡ drop (declared * 9) r → left53 declared points l ≡ left53 declared points r
@@ -42,11 +43,6 @@ length-restored order firsts previous before (Missing1 ∷ points) = ap suc (len
 length-restored order firsts previous before (Missing2 ∷ points) = ap suc (length-restored order firsts previous before points)
 length-restored order (value ∷ firsts) previous before (Normal packed ∷ points) = ap suc (length-restored order firsts value previous points)
 length-restored order [] previous before (Normal packed ∷ points) = ap suc (length-restored order [] _ previous points)
-
-length-map : (f : DecodedValue → DecodedValue) (points : List DecodedValue) → length (map f points) ≡ length points
-unfolding map
-length-map f [] = refl
-length-map f (p ∷ points) = ap suc (length-map f points)
 
 pub length-from : (d : Differencing) (payload : List ℕ) (packed : List DecodedValue) → length (restoredFrom d payload packed) ≡ length packed
 length-from d payload packed =
@@ -75,7 +71,7 @@ module _ (d : Differencing) (payload : List ℕ) (declared : ℕ) (lent : List �
       let x = restores packed h in
       let some : anyOf beyond (restoredFrom d payload packed) ≡ true = not-false (anyOf beyond (restoredFrom d payload packed)) (sym (x .answer) ∙ e) in
       let clear = replicate declared (Normal (pos 0)) in
-      let size : length (flatMap pointOctets clear) ≡ declared * 9 = length-flat pointOctets 9 size-point clear ∙ ap (λ (m : ℕ). m * 9) (length-replicate declared (Normal (pos 0))) in
+      let size : length (flatMap pointOctets clear) ≡ declared * 9 = size-points clear ∙ ap (λ (m : ℕ). m * 9) (length-replicate declared (Normal (pos 0))) in
       let past : drop (declared * 9) after ≡ drop (declared * 9) lent = subst (λ (n : ℕ). drop (n * 9) after ≡ drop (n * 9) lent) (h .long) (x .past) in
       rw some
       (ap (left (unpacked.Refused Beyond))

@@ -7,10 +7,10 @@ ghost use lib.ListN.{length};
 ghost use Rattle.format.specs.Refusals.{left};
 ghost use Rattle.format.specs.Layout.{pointSize};
 ghost use Rattle.format.specs.Unpacking.{unpack52};
-ghost use Rattle.format.specs.Differences.{left53, unpack53};
+ghost use Rattle.format.specs.Differences.{restoredFrom, left53, unpack53};
 ghost use Rattle.format.specs.declared.DecodedValue.{DecodedValue};
-ghost use Rattle.diff.specs.Restoring.{Orderly, Holding, restoredFrom};
-ghost use Rattle.decoder.specs.Deciding.{countedBy, roomyBy};
+ghost use Rattle.diff.specs.Restoring.{Orderly, Holding};
+ghost use Rattle.decoder.specs.Deciding.{countedBy, roomyBy, decidedBy};
 use format::DecodedValue;
 use format::Differencing;
 use format::Located;
@@ -25,7 +25,7 @@ fn counted(located: Located, declared: u32) -> Located
     let Located::At(places, points) = located else {
         return located;
     };
-    if points != group_fields::size(declared) {
+    if points != places::size(declared) {
         return Located::Refused(Refusal::Points);
     }
     if 4194304 < declared {
@@ -36,15 +36,22 @@ fn counted(located: Located, declared: u32) -> Located
 
 // 10: "a lent buffer is too small".
 fn roomy(located: Located, declared: u32, octets: usize) -> Located
-    ensures { λ r. ⌜ r ≡ roomyBy declared octets located ⌝ }
+    ensures { λ r. ⌜ r ≡ roomyBy octets declared located ⌝ }
 {
     let Located::At(places, points) = located else {
         return located;
     };
-    if octets / layout::POINT_SIZE < group_fields::size(declared) {
+    if octets / layout::POINT_SIZE < places::size(declared) {
         return Located::Refused(Refusal::Room);
     }
     Located::At(places, points)
+}
+
+// 9, then 10, which 5.2 and 5.3 share.
+fn decided(located: Located, declared: u32, octets: usize) -> Located
+    ensures { λ r. ⌜ r ≡ decidedBy octets declared located ⌝ }
+{
+    roomy(counted(located, declared), declared, octets)
 }
 
 // Template 5.2: the points of a payload, nine octets each.
@@ -57,7 +64,7 @@ pub fn unpack_complex(
     ensures { λ r. ⌜ left r (now (points .exit)) ≡ unpack52 template declared (now (payload .entry)) (now (points .entry)) ⌝ }
 {
     let located = group_fields::located_complex(template, payload);
-    match roomy(counted(located, declared), declared, points.len()) {
+    match decided(located, declared, points.len()) {
         Located::Refused(refusal) => Unpacked::Refused(refusal),
         Located::At(places, count) => {
             let fields = group_fields::fields_of(template, 0);
@@ -77,7 +84,7 @@ fn restored(
     requires { ⌜ Orderly differencing × (declared ≤ 4194304) × (declared * pointSize ≤ length (now points)) ⌝ }
     ensures { λ r. ⌜ ((packed : List DecodedValue) → Holding packed declared (now (points .entry)) → left r (now (points .exit)) ≡ left53 declared (restoredFrom differencing (now (payload .entry)) packed) (now (points .entry))) ⌝ }
 {
-    let count = group_fields::size(declared);
+    let count = places::size(declared);
     if diff::restore(differencing, payload, points, count) {
         return Unpacked::Points(declared);
     }
@@ -96,7 +103,7 @@ pub fn unpack_spatial(
     ensures { λ r. ⌜ left r (now (points .exit)) ≡ unpack53 template differencing declared (now (payload .entry)) (now (points .entry)) ⌝ }
 {
     let located = group_fields::located_spatial(template, differencing, payload);
-    match roomy(counted(located, declared), declared, points.len()) {
+    match decided(located, declared, points.len()) {
         Located::Refused(refusal) => Unpacked::Refused(refusal),
         Located::At(places, count) => {
             let start = group_fields::descriptors_end(differencing);

@@ -6,12 +6,13 @@ use native.Mathlib.Nat.{div-div-eq-div-mul, mod-eq-of-lt, div-add-mod', div-one}
 use native.Mathlib.Omega.{arith}
 use lib.IntN.{ℤ, pos}
 use lib.ListN.{length, getD, length-append}
-use lib.Seq.{sets, sets-eq, take-at, drop-at, drop-append-add, getD-at, getD-append-add}
+use lib.Seq.{sets, getD-at, getD-append-add}
 use Rattle.format.specs.Lists.{listed}
 use Rattle.format.specs.Bits.{numberAt}
 use Rattle.format.specs.Layout.{bigEndian, pointOctets, markOf, twosComplement}
 use Rattle.format.specs.declared.DecodedValue.{DecodedValue}
 use Rattle.format.specs.declared.DecodedValue.the-variants.{Normal}
+use Rattle.laws.specs.Stores.{sets-mid}
 use Rattle.laws.specs.Lists.{length-listed}
 use Rattle.laws.specs.Bits.{octet, number-octet}
 use Rattle.diff.specs.Restoring.{Lying}
@@ -51,14 +52,6 @@ number-lies {k} {octets} {n} {m} {front} {behind} l e =
     at p j h = rw (h, l .there, ← l .long) (getD-append-add front (pointOctets (Normal (pos n)) ++ behind) j 0)
 
 -- ---- what is stored
-
--- as many elements in the midst of others
-sets-mid : {A : Type 0} (before old new behind : List A) (at : ℕ) → length before ≡ at → length new ≡ length old → sets (before ++ (old ++ behind)) at new ≡ before ++ (new ++ behind)
-sets-mid before old new behind at e h =
-    let long = length-append before (old ++ behind) in
-    sets-eq new (before ++ (old ++ behind)) at (omega (arith, long, length-append old behind))
-    ∙ rw (← e, take-at before (old ++ behind) (length before) refl, drop-append-add before (old ++ behind) (length new), drop-at old behind (length new) (sym h))
-    (append-assoc before new behind)
 
 -- a point's number, behind its mark
 pub number-stored : {k : ℕ} {octets : List ℕ} {z : ℤ} (y : ℤ) {front behind octets′ : List ℕ} → Lying k octets (Normal z) front behind

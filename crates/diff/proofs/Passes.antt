@@ -1,6 +1,6 @@
 -- All points, one after another. Assumes nothing.
 use mathlib.Core.Path.{_≡_, refl, sym, ap, _∙_}
-use mathlib.Core.Bool.{Bool, true, false, not, _||_, true≢false}
+use mathlib.Core.Bool.{Bool, true, false, not, true≢false}
 use mathlib.Core.List.{List, [], _∷_, _++_, append-assoc, append-nil, map, flatMap}
 use Prim.Native.Nat.{ℕ, suc, _+_, _*_, _≤_, _<_}
 use native.Mathlib.Omega.{arith}
@@ -8,32 +8,17 @@ use lib.ListN.{length, getD, drop, length-append}
 use lib.Seq.{drop-at}
 use Rattle.format.specs.Lists.{anyOf, _over_}
 use Rattle.format.specs.Layout.{pointOctets}
-use Rattle.format.specs.Differences.{restored, beyond}
+use Rattle.format.specs.Differences.{restored, restoredFrom, beyond}
 use Rattle.format.specs.declared.Differencing.{Differencing}
 use Rattle.format.specs.declared.DecodedValue.{DecodedValue}
 use Rattle.format.specs.declared.DecodedValue.the-variants.{Missing1}
-use Rattle.laws.specs.Lists.{length-listed}
-use Rattle.laws.specs.Stores.{flat-append, length-flat}
-use Rattle.diff.specs.Restoring.{Small, Holding, Steady, from, Comes, Lying, Went, Stopped, firstRestoring, Outcome, Orderly, Described, Restored, restoredFrom}
+use Rattle.laws.specs.Lists.{any-append}
+use Rattle.laws.specs.Points.{size-points}
+use Rattle.laws.specs.Stores.{flat-append}
+use Rattle.diff.specs.Restoring.{Small, Holding, Steady, from, Comes, Lying, Went, Stopped, firstRestoring, Outcome, Orderly, Described, Restored}
 use Rattle.diff.specs.declared.Descriptors.{Descriptors}
 use Rattle.diff.specs.declared.Restoring.{Restoring}
-use Rattle.diff.specs.declared.Turn.the-variants as turn
 use Rattle.diff.proofs.Kept.{kept-zero}
-
-size-point : (point : DecodedValue) → length (pointOctets point) ≡ 9
-size-point point = ap suc (length-listed 8 _)
-
-flat-size : (points : List DecodedValue) → length (flatMap pointOctets points) ≡ length points * 9
-flat-size points = length-flat pointOctets 9 size-point points
-
-any-append : {A : Type 0} (f : A → Bool) (xs ys : List A) → anyOf f xs ≡ false → anyOf f (xs ++ ys) ≡ anyOf f ys
-unfolding anyOf
-any-append f [] ys h = refl
-any-append f (x ∷ xs) ys h = by-test (f x) refl (λ e. any-append f xs ys e)
-  where
-    by-test : (t : Bool) → f x ≡ t → (anyOf f xs ≡ false → anyOf f (xs ++ ys) ≡ anyOf f ys) → (f x || anyOf f (xs ++ ys)) ≡ anyOf f ys
-    by-test true e again = absurd (true≢false (rw e at h))
-    by-test false e again = rw e (again (rw e at h))
 
 -- for some packed points: those before point k are restored, and none of them is beyond
 pub record Walking (order : ℕ) (x : Descriptors) (packed : List DecodedValue) (count : ℕ) (lent : List ℕ) (r : Restoring) (k : ℕ) (octets : List ℕ) : Type 0 where
@@ -71,7 +56,7 @@ passing-start order x count lent = record {
     small = λ j l. h .small j (omega (arith, h .long));
     all = refl;
     within = refl;
-    there = h .there ∙ ap (λ (n : ℕ). flatMap pointOctets packed ++ drop n lent) (flat-size packed ∙ ap (λ (n : ℕ). n * 9) (h .long));
+    there = h .there ∙ ap (λ (n : ℕ). flatMap pointOctets packed ++ drop n lent) (size-points packed ∙ ap (λ (n : ℕ). n * 9) (h .long));
   };
 }
 
@@ -89,7 +74,7 @@ module _ {order : ℕ} {x : Descriptors} {packed : List DecodedValue} {count : �
     unfolding flatMap
     lies = record {
       small = rw e at (w .small) 0 (omega arith);
-      long = flat-size (w .done) ∙ ap (λ (n : ℕ). n * 9) (w .done-is);
+      long = size-points (w .done) ∙ ap (λ (n : ℕ). n * 9) (w .done-is);
       there = rw e at (w .there) ∙ ap (λ (l : List ℕ). front ++ l) (append-assoc (pointOctets point) (flatMap pointOctets more) (drop (count * 9) lent));
     }
 
@@ -125,7 +110,7 @@ module _ {order : ℕ} {x : Descriptors} {packed : List DecodedValue} {count : �
   past : drop (count * 9) octets ≡ drop (count * 9) lent
   past =
       let left = flatMap pointOctets (w .left) in
-      let size : length (front ++ left) ≡ count * 9 = length-append front left ∙ omega (arith, flat-size (w .done), flat-size (w .left), w .done-is, w .left-is) in
+      let size : length (front ++ left) ≡ count * 9 = length-append front left ∙ omega (arith, size-points (w .done), size-points (w .left), w .done-is, w .left-is) in
       rw (w .there, ← append-assoc front left (drop (count * 9) lent)) (drop-at (front ++ left) (drop (count * 9) lent) (count * 9) size)
 
   -- one is beyond
@@ -147,7 +132,7 @@ module _ {order : ℕ} {x : Descriptors} {packed : List DecodedValue} {count : �
       by-left : (left : List DecodedValue) → w .left ≡ left → (from order x (firstRestoring order) packed ≡ w .done) × (octets ≡ flatMap pointOctets (w .done) over lent)
       by-left (point ∷ more) e = absurd (omega (arith, w .left-is, ap length e))
       by-left [] e =
-          let size : count * 9 ≡ length front = omega (arith, flat-size (w .done), w .done-is, w .left-is) in
+          let size : count * 9 ≡ length front = omega (arith, size-points (w .done), w .done-is, w .left-is) in
           (w .all ∙ ap (λ (l : List DecodedValue). w .done ++ from order x r l) e ∙ append-nil (w .done), rw e at (w .there) ∙ ap (λ (n : ℕ). front ++ drop n lent) size)
 
 -- ---- for whatever packed points the lent octets hold

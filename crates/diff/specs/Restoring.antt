@@ -8,7 +8,7 @@ use lib.IntN.{ℤ, pos, negsuc, subℕ}
 use Rattle.format.specs.Lists.{anyOf, _over_}
 use Rattle.format.specs.Bits.{bitAt, numberAt}
 use Rattle.format.specs.Layout.{pointSize, pointOctets}
-use Rattle.format.specs.Differences.{descriptorsOf, signed, raised, expected, restored, beyond}
+use Rattle.format.specs.Differences.{descriptorsOf, signed, raised, expected, restored, restoredFrom, beyond}
 use Rattle.format.specs.declared.Differencing.{Differencing}
 use Rattle.format.specs.declared.DecodedValue.{DecodedValue}
 use Rattle.format.specs.declared.DecodedValue.the-variants.{Normal, Missing1, Missing2}
@@ -38,19 +38,6 @@ pub record Holding (packed : List DecodedValue) (count : ℕ) (octets : List ℕ
   pub long : length packed ≡ count
   pub small : (k : ℕ) → k < count → Small (getD packed k Missing1)
   pub there : octets ≡ flatMap pointOctets packed over octets
-
--- all points of document 01, from the packed ones
-abbrev pub restoredFrom : Differencing → List ℕ → List DecodedValue → List DecodedValue
-restoredFrom d payload packed =
-    let x = descriptorsOf d payload in
-    restored (d .order) (x .firsts) (pos 0) (pos 0) (map (raised (x .minimum)) packed)
-
--- whether all numbers are within 2^60 either way; and where they are, the points stand in the place of the packed ones
-pub record Restored (d : Differencing) (payload : List ℕ) (packed : List DecodedValue) (within : Bool) (before after : List ℕ) : Type 0 where
-  pub answer : within ≡ not (anyOf beyond (restoredFrom d payload packed))
-  pub there : within ≡ true → after ≡ flatMap pointOctets (restoredFrom d payload packed) over before
-  pub long : length after ≡ length before
-  pub past : drop (length packed * pointSize) after ≡ drop (length packed * pointSize) before
 
 -- ---- numbers that are kept
 
@@ -167,9 +154,14 @@ module _ (order : ℕ) (x : Descriptors) where
 abbrev pub firstRestoring : ℕ → Restoring
 firstRestoring order = record { left = order; previous = bias; before = bias }
 
--- of all points, `size` in number: the same as `Restored`
+-- of all points, `size` in number: whether their numbers are within 2^60 either way; and where they are, the points stand
+-- in the place of the packed ones
 pub record Outcome (points : List DecodedValue) (size : ℕ) (within : Bool) (before after : List ℕ) : Type 0 where
   pub answer : within ≡ not (anyOf beyond points)
   pub there : within ≡ true → after ≡ flatMap pointOctets points over before
   pub long : length after ≡ length before
   pub past : drop (size * pointSize) after ≡ drop (size * pointSize) before
+
+-- all points of document 01
+abbrev pub Restored : Differencing → List ℕ → List DecodedValue → Bool → List ℕ → List ℕ → Type 0
+Restored d payload packed = Outcome (restoredFrom d payload packed) (length packed)

@@ -50,18 +50,12 @@ fn signed(number: u64) -> i64
     (number as i64) - 4611686018427387903
 }
 
-fn wide(x: u32) -> u64
-    ensures { λ r. ⌜ (r ≡ x) × (r < 2 ^ 32) ⌝ }
-{
-    x as u64
-}
-
 // A first value, "unsigned".
 fn first_value(payload: &[u8], octets: usize, k: usize) -> u64
     requires { ⌜ (octets ≤ 4) × (k ≤ 1) ⌝ }
     ensures { λ r. ⌜ (r ≡ bias + numberAt (now (payload .entry)) (k * octets * 8) (octets * 8)) × (r < bias + 2 ^ 32) ⌝ }
 {
-    BIAS + wide(stream::read_number(payload, BitPlace(k * octets * 8), octets * 8))
+    BIAS + places::grown(stream::read_number(payload, BitPlace(k * octets * 8), octets * 8))
 }
 
 // The minimum, "with a leading sign bit and magnitude (minus zero is zero)".
@@ -70,7 +64,7 @@ fn minimum(payload: &[u8], octets: usize, order: usize) -> u64
     ensures { λ r. ⌜ Minimum (now (payload .entry)) octets order r ⌝ }
 {
     let at = order * octets * 8;
-    let magnitude = wide(stream::read_number(payload, BitPlace(at + 1), octets * 8 - 1));
+    let magnitude = places::grown(stream::read_number(payload, BitPlace(at + 1), octets * 8 - 1));
     if stream::read_number(payload, BitPlace(at), 1) == 1 {
         return BIAS - magnitude;
     }
@@ -81,8 +75,8 @@ fn descriptors_of(differencing: Differencing, payload: &[u8]) -> Descriptors
     requires { ⌜ Orderly differencing ⌝ }
     ensures { λ r. ⌜ Described differencing (now (payload .entry)) r ⌝ }
 {
-    let octets = group_fields::small(differencing.octets);
-    let order = group_fields::small(differencing.order);
+    let octets = places::small(differencing.octets);
+    let order = places::small(differencing.order);
     Descriptors {
         first: first_value(payload, octets, 0),
         second: first_value(payload, octets, 1),
@@ -121,7 +115,7 @@ fn next(order: usize, descriptors: Descriptors, restoring: Restoring, packed: u3
         let expected = expected(order, restoring.previous, restoring.before);
         return after(
             0,
-            wide(packed) + descriptors.minimum + expected - BIAS,
+            places::grown(packed) + descriptors.minimum + expected - BIAS,
             restoring,
         );
     }

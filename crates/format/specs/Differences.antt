@@ -10,7 +10,7 @@ use Rattle.format.specs.Bits.{bitAt, numberAt, fieldOf}
 use Rattle.format.specs.Layout.{pointOctets}
 use Rattle.format.specs.Refusals.{Row, _gives_, first, Left, left}
 use Rattle.format.specs.Template.{descriptorsEnd, orderRefusals, kindRefusals, descriptorRefusals}
-use Rattle.format.specs.Unpacking.{saidBy, pointsUpTo, locatedBy, locatedRefusals, countRefusals, roomRefusals}
+use Rattle.format.specs.Unpacking.{codesOf, pointsBefore, saidBy, pointsUpTo, locatedBy, locatedRefusals, countRefusals, roomRefusals}
 use Rattle.format.specs.declared.Refusal.the-variants.{Short, Beyond}
 use Rattle.format.specs.declared.Template.{Template}
 use Rattle.format.specs.declared.Differencing.{Differencing}
@@ -65,12 +65,14 @@ beyond (Normal number) = ltb (2 ^ 60) (natAbs number)
 beyond Missing1 = false
 beyond Missing2 = false
 
--- all points of a payload
-unfoldable pub points53 : Template → Differencing → List ℕ → List DecodedValue
-points53 t d payload =
-    let packed = pointsUpTo t (saidBy (descriptorsEnd d) t payload) (t .groups) in
+-- all points of a payload, from the packed ones
+abbrev pub restoredFrom : Differencing → List ℕ → List DecodedValue → List DecodedValue
+restoredFrom d payload packed =
     let descriptors = descriptorsOf d payload in
     restored (d .order) (descriptors .firsts) (pos 0) (pos 0) (map (raised (descriptors .minimum)) packed)
+
+unfoldable pub points53 : Template → Differencing → List ℕ → List DecodedValue
+points53 t d payload = restoredFrom d payload (pointsUpTo t (saidBy (descriptorsEnd d) t payload) (t .groups))
 
 -- 3, 1, 2, 4, "7 for descriptors, then from 6 on as for 5.2", as far as 7 for the values
 abbrev pub located53Refusals : Template → Differencing → List ℕ → List Row
@@ -85,7 +87,9 @@ locate53 t d payload = locatedBy (located53Refusals t d payload) (descriptorsEnd
 -- "For 5.3: 3, 1, 2, 4, 7 for descriptors, then from 6 on as for 5.2, 12 last."
 abbrev pub refusals53 : Template → Differencing → ℕ → List ℕ → List ℕ → List Row
 refusals53 t d declared payload lent =
-    located53Refusals t d payload ++ countRefusals (descriptorsEnd d) t declared payload ++ roomRefusals declared lent
+    located53Refusals t d payload
+    ++ countRefusals (pointsBefore t (codesOf (descriptorsEnd d) t payload) (t .groups)) declared
+    ++ roomRefusals (length lent) declared
 
 -- 12, "last": "12 leaves number 0 and mark 0 in the declared places"
 unfoldable pub left53 : ℕ → List DecodedValue → List ℕ → Left Unpacked

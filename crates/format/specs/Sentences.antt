@@ -78,7 +78,7 @@ sentences =
     ∷ writing (29 ∷ 15 ∷ []) 2 5 3 shows spanned 2 (0xFA ∷ 0xF0 ∷ 0xFF ∷ [])
     ∷ writing [] 2 5 3 shows spanned 0 (0xFF ∷ 0xFF ∷ 0xFF ∷ [])
     ∷ writing (31 ∷ []) 7 5 2 shows spanned 2 (0xFF ∷ 0xF0 ∷ [])
-    -- "length reference + increment × code"
+    -- "Length = length code × increment + length reference"
     ∷ unpacking (template 0 3 3 1 0 2 2 1 1) 7 (0xA3 ∷ 0x80 ∷ 0x40 ∷ 0x6A ∷ [])
     shows points (number 5 ∷ number 6 ∷ number 1 ∷ number 0 ∷ number 1 ∷ number 0 ∷ number 8 ∷ [])
     ∷ packing 1 (0 ∷ 0 ∷ 8 ∷ 8 ∷ 8 ∷ 8 ∷ 0 ∷ []) 3 3

@@ -1,5 +1,5 @@
 -- Document 01, "Unpacking under 5.2 and 5.3". Assumes nothing.
-use Prim.Native.Nat.{ℕ, suc, _+_, _-_, _*_, _^_}
+use Prim.Native.Nat.{ℕ, suc, _+_, _-_, _*_, _/_, _^_}
 use mathlib.Core.Bool.{Bool, not, _||_, _&&_, cond}
 use mathlib.Core.List.{List, [], _∷_, _++_, flatMap}
 use lib.Dec.{eqb, ltb}
@@ -8,7 +8,7 @@ use lib.Seq.{slice}
 use lib.IntN.{pos}
 use Rattle.format.specs.Lists.{listed, total, joined, anyOf, _over_}
 use Rattle.format.specs.Bits.{fieldOf, roundedUp}
-use Rattle.format.specs.Layout.{pointSize, pointOctets, wholeOnes}
+use Rattle.format.specs.Layout.{pointSize, pointOctets}
 use Rattle.format.specs.Refusals.{Row, _gives_, first, Left, left}
 use Rattle.format.specs.Template.{widthsAt, lengthsAt, valuesAt, kindRefusals, fieldRefusals}
 use Rattle.format.specs.declared.Refusal.the-variants.{Short, GroupSize, Points, Room}
@@ -154,16 +154,16 @@ locatedBy rows start t payload =
     first located.Refused rows (located.At (placesOf start t codes) (pointsBefore t codes (t .groups)))
 
 -- 9: "points do not equal the declared count, or that count is above 4,194,304"
-abbrev pub countRefusals : ℕ → Template → ℕ → List ℕ → List Row
-countRefusals start t declared payload =
-    not (eqb (pointsBefore t (codesOf start t payload) (t .groups)) declared) gives Points
+abbrev pub countRefusals : ℕ → ℕ → List Row
+countRefusals points declared =
+    not (eqb points declared) gives Points
     ∷ ltb 4194304 declared gives Points
     ∷ []
 
--- 10
-abbrev pub roomRefusals : ℕ → List ℕ → List Row
-roomRefusals declared lent =
-    ltb (wholeOnes pointSize lent) declared gives Room
+-- 10: "a lent buffer is too small"; spare octets short of a whole point are not used
+abbrev pub roomRefusals : ℕ → ℕ → List Row
+roomRefusals octets declared =
+    ltb (octets / pointSize) declared gives Room
     ∷ []
 
 -- ---- template 5.2
@@ -175,7 +175,9 @@ locate52 t payload = locatedBy (kindRefusals t ++ locatedRefusals 0 t payload) 0
 -- "Order for 5.2: 1, 2, 6, 5, 7 for the group fields, 8, 7 for the values, 9, 10."
 abbrev pub refusals52 : Template → ℕ → List ℕ → List ℕ → List Row
 refusals52 t declared payload lent =
-    kindRefusals t ++ locatedRefusals 0 t payload ++ countRefusals 0 t declared payload ++ roomRefusals declared lent
+    kindRefusals t ++ locatedRefusals 0 t payload
+    ++ countRefusals (pointsBefore t (codesOf 0 t payload) (t .groups)) declared
+    ++ roomRefusals (length lent) declared
 
 unfoldable pub unpack52 : Template → ℕ → List ℕ → List ℕ → Left Unpacked
 unpack52 t declared payload lent =

@@ -32,18 +32,6 @@ pub struct Bounds {
     pub to: OctetPlace,
 }
 
-pub fn small(x: u8) -> usize
-    ensures { λ r. ⌜ (r ≡ x) × (r < 256) ⌝ }
-{
-    x as usize
-}
-
-pub fn size(x: u32) -> usize
-    ensures { λ r. ⌜ (r ≡ x) × (r < 2 ^ 32) ⌝ }
-{
-    x as usize
-}
-
 // A product that is far from wrapping.
 pub fn times(x: usize, y: usize) -> usize
     requires { ⌜ (x < 2 ^ 32) × (y < 256) ⌝ }
@@ -57,7 +45,7 @@ fn span(groups: u32, width: u8) -> usize
     requires { ⌜ width ≤ 32 ⌝ }
     ensures { λ r. ⌜ (r ≡ spanOf 0 width groups) × (r < 2 ^ 40) ⌝ }
 {
-    places::span(BitPlace(0), small(width), size(groups)).0
+    places::span(BitPlace(0), places::small(width), places::size(groups)).0
 }
 
 // "each starting on an octet": the references at octet `start`.
@@ -81,9 +69,9 @@ fn code(payload: &[u8], field: OctetPlace, g: usize, width: u8) -> usize
     requires { ⌜ (field .0 < 2 ^ 42) × (g < 4194304) × (width ≤ 32) ⌝ }
     ensures { λ r. ⌜ (r ≡ numberAt (now (payload .entry)) (field .0 * 8 + g * width) width) × (r < 2 ^ 32) ⌝ }
 {
-    let bits = small(width);
+    let bits = places::small(width);
     let place = BitPlace(places::first_bit(field).0 + times(g, bits));
-    size(stream::read_number(payload, place, bits))
+    places::size(stream::read_number(payload, place, bits))
 }
 
 pub fn reference_of(template: Template, payload: &[u8], fields: Fields, g: usize) -> usize
@@ -100,7 +88,7 @@ pub fn width_of(template: Template, payload: &[u8], fields: Fields, g: usize) ->
     ensures { λ r. ⌜ (r ≡ groupWidth template (codesOf (fields .references .0) template (now (payload .entry))) g) × (r < 2 ^ 33) ⌝ }
 {
     let field = fields.widths;
-    code(payload, field, g, template.widths.bits) + small(template.widths.reference)
+    code(payload, field, g, template.widths.bits) + places::small(template.widths.reference)
 }
 
 // "length code × increment + length reference"
@@ -108,7 +96,7 @@ fn coded_length(code: usize, increment: u8, reference: u32) -> usize
     requires { ⌜ code < 2 ^ 32 ⌝ }
     ensures { λ r. ⌜ (r ≡ code * increment + reference) × (r < 2 ^ 41) ⌝ }
 {
-    times(code, small(increment)) + size(reference)
+    times(code, places::small(increment)) + places::size(reference)
 }
 
 // "Length = length code × increment + length reference, except that the last group's length is the template's own number".
@@ -116,8 +104,8 @@ pub fn length_of(template: Template, payload: &[u8], fields: Fields, g: usize) -
     requires { ⌜ Walkable template fields × (g < template .groups) ⌝ }
     ensures { λ r. ⌜ (r ≡ groupLength template (codesOf (fields .references .0) template (now (payload .entry))) g) × (r < 2 ^ 41) ⌝ }
 {
-    if size(template.groups) <= g + 1 {
-        return size(template.lengths.last);
+    if places::size(template.groups) <= g + 1 {
+        return places::size(template.lengths.last);
     }
     let field = fields.lengths;
     let code = code(payload, field, g, template.lengths.bits);
@@ -148,7 +136,7 @@ fn walked(template: Template, payload: &[u8], fields: Fields) -> Located
     requires { ⌜ Walkable template fields × (template .lengths .last ≤ 4294967295) ⌝ }
     ensures { λ r. ⌜ r ≡ locatedBy (groupRefusals (fields .references .0) template (now (payload .entry))) (fields .references .0) template (now (payload .entry)) ⌝ }
 {
-    let groups = size(template.groups);
+    let groups = places::size(template.groups);
     let mut points = 0usize;
     let mut bits = 0usize;
     let mut g = 0usize;
@@ -224,7 +212,10 @@ pub fn located_complex(template: Template, payload: &[u8]) -> Located
 pub fn descriptors_end(differencing: Differencing) -> usize
     ensures { λ r. ⌜ (r ≡ descriptorsEnd differencing) × (r < 2 ^ 40) ⌝ }
 {
-    times(small(differencing.order) + 1, small(differencing.octets))
+    times(
+        places::small(differencing.order) + 1,
+        places::small(differencing.octets),
+    )
 }
 
 // "4, 7 for descriptors, then from 6 on as for 5.2".

@@ -1,12 +1,12 @@
 -- The laws of the words for lists. Assumes nothing.
 use mathlib.Core.Path.{_≡_, refl, sym, ap, ap₂, _∙_}
 use mathlib.Core.Bool.{Bool, true, false, _||_, or-true, false≢true}
-use mathlib.Core.List.{List, [], _∷_, _++_}
+use mathlib.Core.List.{List, [], _∷_, _++_, map}
 use Prim.Native.Nat.{ℕ, zero, suc, _+_, _-_, _≤_, _<_}
 use native.Mathlib.Nat.{not-suc-le-zero, add-zero, add-suc, zero-add, suc-add, sub-zero, zero-sub}
 use native.Mathlib.Numerals.{add-one}
 use native.Mathlib.Omega.{arith}
-use lib.ListN.{length, take, drop, set, getD, length-append, length-drop, drop-of-length-le}
+use lib.ListN.{length, replicate, take, drop, set, getD, length-append, length-drop, drop-of-length-le}
 use lib.Seq.{slice, take-nil, drop-cons, set-at, append-snoc}
 use Rattle.format.specs.Lists.{listed, total, joined, anyOf, _over_}
 
@@ -40,6 +40,17 @@ module _ {A : Type 0} where
   unfolding listed
   listed-more n f = listed-add n 1 f ∙ rw (add-zero n)
 
+  -- the same at every place
+  pub listed-same : (n : ℕ) (x : A) → listed n (λ k. x) ≡ replicate n x
+  unfolding listed
+  listed-same zero x = refl
+  listed-same (suc n) x = ap (λ (l : List A). x ∷ l) (listed-same n x)
+
+pub length-map : {A B : Type 0} (f : A → B) (xs : List A) → length (map f xs) ≡ length xs
+unfolding map
+length-map f [] = refl
+length-map f (x ∷ xs) = ap suc (length-map f xs)
+
 -- ---- over
 
 module _ {A : Type 0} where
@@ -58,11 +69,6 @@ module _ {A : Type 0} where
 
   pub length-over : (xs lent : List A) → length xs ≤ length lent → length (xs over lent) ≡ length lent
   length-over xs lent h = simp (length-append, length-drop) (omega arith)
-
-  -- nothing over a buffer leaves it
-  pub none-over : (xs lent : List A) → length xs ≡ 0 → lent ≡ xs over lent
-  none-over [] lent h = refl
-  none-over (x ∷ xs) lent h = absurd (omega arith)
 
 -- ---- a part in the middle
 
@@ -104,6 +110,15 @@ module _ {A : Type 0} (f : A → Bool) where
   pub any-end : (xs : List A) (k : ℕ) → length xs ≤ k → anyOf f (drop k xs) ≡ false
   unfolding anyOf
   any-end xs k l = rw (drop-of-length-le xs {i = k} l)
+
+  pub any-append : (xs ys : List A) → anyOf f xs ≡ false → anyOf f (xs ++ ys) ≡ anyOf f ys
+  unfolding anyOf
+  any-append [] ys h = refl
+  any-append (x ∷ xs) ys h = by-test (f x) refl (λ e. any-append xs ys e)
+    where
+      by-test : (t : Bool) → f x ≡ t → (anyOf f xs ≡ false → anyOf f (xs ++ ys) ≡ anyOf f ys) → (f x || anyOf f (xs ++ ys)) ≡ anyOf f ys
+      by-test true e again = absurd (false≢true (sym (rw e at h)))
+      by-test false e again = rw e (again (rw e at h))
 
 -- ---- totals and joined lists
 

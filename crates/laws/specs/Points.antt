@@ -1,7 +1,7 @@
 -- What a point depends on, and where its mark is 0. Assumes nothing.
 use mathlib.Core.Path.{_≡_, refl, sym, ap, ap₂, subst, _∙_}
 use mathlib.Core.Bool.{Bool, true, false, not, _||_, _&&_, cond}
-use mathlib.Core.List.{List, [], _∷_, _++_, map}
+use mathlib.Core.List.{List, [], _∷_, _++_, map, flatMap}
 use Prim.Native.Nat.{ℕ, zero, suc, _+_, _-_, _*_, _^_, _≤_, _<_}
 use native.Mathlib.Omega.{arith}
 use borrow.Author.Tests.{leb-true, leb-false}
@@ -11,7 +11,7 @@ use lib.Seq.{getD-append-add}
 use lib.IntN.{ℤ, pos}
 use Rattle.format.specs.Lists.{listed, total, joined}
 use Rattle.format.specs.Bits.{bitAt, numberAt, fieldOf}
-use Rattle.format.specs.Layout.{markOf, heldBy}
+use Rattle.format.specs.Layout.{pointSize, pointOctets, markOf, heldBy}
 use Rattle.format.specs.Template.{valuesAt}
 use Rattle.format.specs.Unpacking.{Codes, codesOf, referenceOf, groupWidth, groupLength, pointsBefore, bitsBefore, Said, saidBy, decoded, pointOf, pointAt, pointsUpTo}
 use Rattle.format.specs.Differences.{raised, restored}
@@ -20,6 +20,15 @@ use Rattle.format.specs.declared.DecodedValue.{DecodedValue}
 use Rattle.format.specs.declared.DecodedValue.the-variants.{Normal, Missing1, Missing2}
 use Rattle.laws.specs.Lists.{length-listed, getD-listed, length-joined, total-next, total-ext, total-upto}
 use Rattle.laws.specs.Bits.{number-ext}
+use Rattle.laws.specs.Stores.{length-flat}
+
+-- ---- points in octets
+
+pub size-point : (point : DecodedValue) → length (pointOctets point) ≡ pointSize
+size-point point = ap suc (length-listed 8 _)
+
+pub size-points : (points : List DecodedValue) → length (flatMap pointOctets points) ≡ length points * pointSize
+size-points points = length-flat pointOctets pointSize size-point points
 
 -- ---- the point at a place
 

@@ -6,7 +6,7 @@ use native.Mathlib.Nat.{add-zero, add-suc, zero-add, suc-add, suc-mul, zero-mul,
 use native.Mathlib.Omega.{arith}
 use lib.ListN.{length, set, length-append}
 use lib.Pow.{pow-add}
-use lib.Seq.{sets, sets-eq}
+use lib.Seq.{sets, sets-eq, take-at, drop-at, drop-append-add}
 use Rattle.format.specs.Lists.{listed, _over_}
 use Rattle.laws.specs.Lists.{length-listed, listed-more}
 
@@ -31,6 +31,15 @@ module _ {A : Type 0} where
   pub sets-over : (l xs ys : List A) → length xs + length ys ≤ length l → sets (xs over l) (length xs) ys ≡ (xs ++ ys) over l
   sets-over l xs ys h =
       rw (← sets-front l xs (omega arith), ← zero-add (length xs)) (sets-append l 0 xs ys ∙ sets-front l (xs ++ ys) (omega (arith, length-append xs ys)))
+
+  -- a store in the place of as much
+  pub sets-mid : (before old new behind : List A) (at : ℕ) → length before ≡ at → length new ≡ length old
+      → sets (before ++ (old ++ behind)) at new ≡ before ++ (new ++ behind)
+  sets-mid before old new behind at e h =
+      let long = length-append before (old ++ behind) in
+      sets-eq new (before ++ (old ++ behind)) at (omega (arith, long, length-append old behind))
+      ∙ rw (← e, take-at before (old ++ behind) (length before) refl, drop-append-add before (old ++ behind) (length new), drop-at old behind (length new) (sym h))
+      (append-assoc before new behind)
 
 -- ---- things of one size, end to end
 

@@ -89,6 +89,26 @@ pub fn wide(octet: u8) -> u64
     octet as u64
 }
 
+// Numbers of the templates, as places and counts.
+pub fn small(x: u8) -> usize
+    ensures { λ r. ⌜ (r ≡ x) × (r < 256) ⌝ }
+{
+    x as usize
+}
+
+pub fn size(x: u32) -> usize
+    ensures { λ r. ⌜ (r ≡ x) × (r < 2 ^ 32) ⌝ }
+{
+    x as usize
+}
+
+// A number that was read, as one that may grow.
+pub fn grown(x: u32) -> u64
+    ensures { λ r. ⌜ (r ≡ x) × (r < 2 ^ 32) ⌝ }
+{
+    x as u64
+}
+
 // "Let bits(x) be the count of binary digits of x, 0 for 0."
 pub fn bits(x: u32) -> u32
     ensures { λ r. ⌜ (r ≡ bits x) × (r ≤ 32) ⌝ }

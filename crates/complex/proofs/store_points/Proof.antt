@@ -1,5 +1,5 @@
 -- `complex::store_points` meets its contract. Assumes nothing.
-use Rattle.complex.specs.Runs.{Narrow}
+use Rattle.complex.specs.Groups.{Narrow}
 use Prim.Native.Nat.{_+_, _-_, _≤_}
 use native.Mathlib.Omega.{arith}
 use Rattle.complex.proofs.Filling.{Filling, filling-start, filling-narrow, filling-room, filling-few, filling-more, filling-end}
@@ -21,17 +21,17 @@ first-bit-requires c κs = omega arith
 loop-holds : tie.Need-loop-holds Inv-loop μ-loop
 loop-holds c = search filling-start
 
-run-of-requires : tie.Need-run-of-requires Inv-loop μ-loop
-run-of-requires c κs = search arith
+group-of-requires : tie.Need-group-of-requires Inv-loop μ-loop
+group-of-requires c κs = search arith
 
-narrow : (c : tie.After-run-of Inv-loop μ-loop) → Narrow (c .run-of .result) (c .before .before .loop .bit)
+narrow : (c : tie.After-group-of Inv-loop μ-loop) → Narrow (c .group-of .result) (c .before .before .loop .bit)
 narrow c = search filling-narrow
 
-few : (c : tie.After-run-of Inv-loop μ-loop) → c .before .before .loop .k + c .run-of .result .length ≤ 4194304
+few : (c : tie.After-group-of Inv-loop μ-loop) → c .before .before .loop .k + c .group-of .result .length ≤ 4194304
 few c = search filling-few
 
-store-run-requires : tie.Need-store-run-requires Inv-loop μ-loop
-store-run-requires c κs = search (filling-narrow, filling-room)
+store-group-requires : tie.Need-store-group-requires Inv-loop μ-loop
+store-group-requires c κs = search (filling-narrow, filling-room)
 
 times-requires : tie.Need-times-requires Inv-loop μ-loop
 times-requires c κs = omega (arith, narrow (c .before .before .before .before) .length, narrow (c .before .before .before .before) .width)
@@ -51,7 +51,7 @@ loop-less c = omega arith
 loop-again : tie.Need-loop-again Inv-loop μ-loop
 loop-again c =
     let start = c .before .before .before .before .before .before .before .before .before .before .before .before .before in
-    filling-more (start .pre .0) (start .pre .1) (c .before .before .before .before .before .before .before .before .loop .inv) (c .before .before .before .before .before .before .before .before .before .before .size .ensures) (c .before .before .before .before .before .before .before .loop-test .taken) (c .before .before .before .before .before .before .run-of .ensures) (c .before .before .before .before .store-run .ensures) (c .before .times .ensures)
+    filling-more (start .pre .0) (start .pre .1) (c .before .before .before .before .before .before .before .before .loop .inv) (c .before .before .before .before .before .before .before .before .before .before .size .ensures) (c .before .before .before .before .before .before .before .loop-test .taken) (c .before .before .before .before .before .before .group-of .ensures) (c .before .before .before .before .store-group .ensures) (c .before .times .ensures)
 
 same-length : tie.Need-same-length Inv-loop μ-loop
 same-length c = c .before .loop .inv .long
@@ -68,8 +68,8 @@ store-points-spec =
     size-requires
     first-bit-requires
     loop-holds
-    run-of-requires
-    store-run-requires
+    group-of-requires
+    store-group-requires
     times-requires
     add-bit
     add-k

@@ -2,16 +2,16 @@
 use Prim.Native.Nat.{_-_, _^_, _<_}
 use native.Mathlib.Omega.{arith}
 use Rattle.format.specs.Unpacking.{pointOf}
-use Rattle.complex.specs.Runs.{valueAt}
+use Rattle.complex.specs.Groups.{valueAt}
 use Rattle.complex.proofs.Storing.{Reading, reading-start, reading-end, value-low, there-still, values-more}
 use Rattle.complex.proofs.store_values.Statement.{statement}
 use Rattle.complex.proofs.store_values.Tie as tie
 
 abbrev Inv-loop : tie.InvT-loop
-Inv-loop template payload run there points₀ from bit₀ k₀ points bit k = Reading run bit₀ (λ i. pointOf template (run .width) (run .reference) (valueAt run payload bit₀ i)) points₀ from points bit k
+Inv-loop template payload group there points₀ from bit₀ k₀ points bit k = Reading group bit₀ (λ i. pointOf template (group .width) (group .reference) (valueAt group payload bit₀ i)) points₀ from points bit k
 
 abbrev μ-loop : tie.MeasureT-loop
-μ-loop template payload run there points₀ from bit₀ k₀ points bit k = run .length - k
+μ-loop template payload group there points₀ from bit₀ k₀ points bit k = group .length - k
 
 loop-holds : tie.Need-loop-holds Inv-loop μ-loop
 loop-holds c = reading-start _ _ _ _ _
@@ -48,7 +48,7 @@ loop-less c = omega arith
 loop-again : tie.Need-loop-again Inv-loop μ-loop
 loop-again c =
     let start = c .before .before .before .before .before .before .before .before .before .before .before .before .before in
-    values-more (start .args .template) (start .args .run) _ _ (start .pre .0) (c .before .before .before .before .before .before .before .before .before .before .loop .inv) (start .pre .1) (c .before .before .before .before .before .before .before .before .if1 .taken) (c .before .before .before .before .before .before .before .read-value .ensures) (c .before .before .before .before .before .decoded .ensures) (c .before .before .before .store-point .ensures)
+    values-more (start .args .template) (start .args .group) _ _ (start .pre .0) (c .before .before .before .before .before .before .before .before .before .before .loop .inv) (start .pre .1) (c .before .before .before .before .before .before .before .before .if1 .taken) (c .before .before .before .before .before .before .before .read-value .ensures) (c .before .before .before .before .before .decoded .ensures) (c .before .before .before .store-point .ensures)
 
 same-length : tie.Need-same-length Inv-loop μ-loop
 same-length c = c .before .before .loop .inv .stored .long

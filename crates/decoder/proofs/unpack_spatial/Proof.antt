@@ -1,6 +1,6 @@
 -- `decoder::unpack_spatial` meets its contract. Assumes nothing.
 use denote.Ref.{now}
-use Rattle.decoder.proofs.Spatial.{refused-53, orderly-53, passing-53, few-53, end-53, walkable-53, roomy-53, restored-room, done-53}
+use Rattle.decoder.proofs.Spatial.{Accepted53, accepted-53, refused-53, orderly-53, passing-53, few-53, end-53, walkable-53, roomy-53, restored-room, done-53}
 use borrow.Author.Needs.{needs}
 use Rattle.decoder.proofs.unpack_spatial.Statement.{statement}
 use Rattle.decoder.proofs.unpack_spatial.Tie as tie
@@ -8,11 +8,8 @@ use Rattle.decoder.proofs.unpack_spatial.Tie as tie
 located-spatial-requires : tie.Need-located-spatial-requires
 located-spatial-requires c κs = search needs
 
-counted-requires : tie.Need-counted-requires
-counted-requires c κs = search needs
-
-roomy-requires : tie.Need-roomy-requires
-roomy-requires c κs = search needs
+decided-requires : tie.Need-decided-requires
+decided-requires c κs = search needs
 
 enum-known-refusal : tie.Need-enum-known-refusal
 enum-known-refusal c = search needs
@@ -23,27 +20,23 @@ enum-known-places c = search needs
 descriptors-end-requires : tie.Need-descriptors-end-requires
 descriptors-end-requires c κs = search needs
 
+accepted : (c : tie.After-known-told2) → (let args = c .before .before .before .before .before .before .before .args in Accepted53 (args .template) (args .differencing) (args .declared) (now (args .payload)) (now (args .points)))
+accepted c = accepted-53 _ _ _ _ (now (c .before .before .before .before .before .before .before .args .points)) (c .before .before .before .before .located-spatial .ensures) (c .before .before .before .decided .ensures) (c .before .places .given .1)
+
 fields-of-requires : tie.Need-fields-of-requires
-fields-of-requires c κs =
-    let start = c .before .before .before .before .before .before .before .before .before in
-    let at = c .before .before .places .given .1 in
-    (passing-53 (start .args .template) (start .args .differencing) (start .args .declared) (now (start .args .payload)) (now (start .args .points)) (c .before .before .before .before .before .before .located-spatial .ensures) (c .before .before .before .before .before .counted .ensures) (c .before .before .before .before .roomy .ensures) at, end-53 (start .args .template) (start .args .differencing) (start .args .declared) (now (start .args .payload)) (now (start .args .points)) (c .before .before .before .before .before .before .located-spatial .ensures) (c .before .before .before .before .before .counted .ensures) (c .before .before .before .before .roomy .ensures) at (c .descriptors-end .ensures))
+fields-of-requires c κs = let a = accepted (c .before) in (passing-53 a, end-53 a (c .descriptors-end .ensures))
 
 store-points-requires : tie.Need-store-points-requires
 store-points-requires c κs =
-    let start = c .before .before .before .before .before .before .before .before .before .before .before in
-    let at = c .before .before .before .before .places .given .1 in
+    let a = accepted (c .before .before .before) in
     let end = c .before .before .descriptors-end .ensures in
     let placed = c .before .fields-of .ensures in
-    (walkable-53 (start .args .template) (start .args .differencing) (start .args .declared) (now (start .args .payload)) (now (start .args .points)) (c .before .before .before .before .before .before .before .before .located-spatial .ensures) (c .before .before .before .before .before .before .before .counted .ensures) (c .before .before .before .before .before .before .roomy .ensures) at end placed, roomy-53 (start .args .template) (start .args .differencing) (start .args .declared) (now (start .args .payload)) (now (start .args .points)) (c .before .before .before .before .before .before .before .before .located-spatial .ensures) (c .before .before .before .before .before .before .before .counted .ensures) (c .before .before .before .before .before .before .roomy .ensures) at end placed)
+    (walkable-53 a end placed, roomy-53 a end placed)
 
 restored-requires : tie.Need-restored-requires
 restored-requires c κs =
-    let start = c .before .before .before .before .before .before .before .before .before .before .before .before .before .before .before in
-    let at = c .before .before .before .before .before .before .before .before .places .given .1 in
-    let end = c .before .before .before .before .before .before .descriptors-end .ensures in
-    let placed = c .before .before .before .before .before .fields-of .ensures in
-    (orderly-53 (start .args .template) (start .args .differencing) (start .args .declared) (now (start .args .payload)) (now (start .args .points)) (c .before .before .before .before .before .before .before .before .before .before .before .before .located-spatial .ensures) (c .before .before .before .before .before .before .before .before .before .before .before .counted .ensures) (c .before .before .before .before .before .before .before .before .before .before .roomy .ensures) at, few-53 (start .args .template) (start .args .differencing) (start .args .declared) (now (start .args .payload)) (now (start .args .points)) (c .before .before .before .before .before .before .before .before .before .before .before .before .located-spatial .ensures) (c .before .before .before .before .before .before .before .before .before .before .before .counted .ensures) (c .before .before .before .before .before .before .before .before .before .before .roomy .ensures) at, restored-room (start .args .template) (start .args .differencing) (start .args .declared) (now (start .args .payload)) (now (start .args .points)) (c .before .before .before .before .before .before .before .before .before .before .before .before .located-spatial .ensures) (c .before .before .before .before .before .before .before .before .before .before .before .counted .ensures) (c .before .before .before .before .before .before .before .before .before .before .roomy .ensures) at end placed (c .before .before .before .store-points .ensures))
+    let a = accepted (c .before .before .before .before .before .before .before) in
+    (orderly-53 a, few-53 a, restored-room a (c .before .before .before .before .before .before .descriptors-end .ensures) (c .before .before .before .before .before .fields-of .ensures) (c .before .before .before .store-points .ensures))
 
 returns : tie.Need-returns
 returns c = search refused-53
@@ -53,19 +46,14 @@ same-length c = search needs
 
 returns-2 : tie.Need-returns-2
 returns-2 c =
-    let start = c .before .before .before .before .before .before .before .before .before .before .before .before .before .before .before .before .before .before in
-    let at = c .before .before .before .before .before .before .before .before .before .before .before .places .given .1 in
-    let end = c .before .before .before .before .before .before .before .before .before .descriptors-end .ensures in
-    let placed = c .before .before .before .before .before .before .before .before .fields-of .ensures in
-    done-53 (start .args .template) (start .args .differencing) (start .args .declared) (now (start .args .payload)) (now (start .args .points)) (c .before .before .before .before .before .before .before .before .before .before .before .before .before .before .before .located-spatial .ensures) (c .before .before .before .before .before .before .before .before .before .before .before .before .before .before .counted .ensures) (c .before .before .before .before .before .before .before .before .before .before .before .before .before .roomy .ensures) at end placed (c .before .before .before .before .before .before .store-points .ensures) (c .before .before .restored .ensures)
+    done-53 (accepted (c .before .before .before .before .before .before .before .before .before .before)) (c .before .before .before .before .before .before .before .before .before .descriptors-end .ensures) (c .before .before .before .before .before .before .before .before .fields-of .ensures) (c .before .before .before .before .before .before .store-points .ensures) (c .before .before .restored .ensures)
 
 pub unpack-spatial-spec : {M : Type 1} → statement M
 unpack-spatial-spec =
     tie.close
     (tie.spec
     located-spatial-requires
-    counted-requires
-    roomy-requires
+    decided-requires
     enum-known-refusal
     enum-known-places
     descriptors-end-requires

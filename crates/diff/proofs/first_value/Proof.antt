@@ -17,8 +17,8 @@ mul-read-number c = search needs
 read-number-requires : tie.Need-read-number-requires
 read-number-requires c κs = search needs
 
-wide-requires : tie.Need-wide-requires
-wide-requires c κs = search needs
+grown-requires : tie.Need-grown-requires
+grown-requires c κs = search needs
 
 add-result : tie.Need-add-result
 add-result c = search needs
@@ -29,4 +29,4 @@ returns c = search needs
 pub first-value-spec : {M : Type 1} → statement M
 first-value-spec =
     tie.close
-    (tie.spec mul-t6 mul-t7 mul-read-number read-number-requires wide-requires add-result returns)
+    (tie.spec mul-t6 mul-t7 mul-read-number read-number-requires grown-requires add-result returns)

@@ -24,8 +24,8 @@ sub-read-number c = search needs
 read-number-requires : tie.Need-read-number-requires
 read-number-requires c κs = search needs
 
-wide-requires : tie.Need-wide-requires
-wide-requires c κs = search needs
+grown-requires : tie.Need-grown-requires
+grown-requires c κs = search needs
 
 read-number-requires-2 : tie.Need-read-number-requires-2
 read-number-requires-2 c κs = search needs
@@ -52,7 +52,7 @@ minimum-spec =
     mul-read-number
     sub-read-number
     read-number-requires
-    wide-requires
+    grown-requires
     read-number-requires-2
     sub-result
     returns

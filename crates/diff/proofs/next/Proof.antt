@@ -7,8 +7,8 @@ use Rattle.diff.proofs.next.Tie as tie
 expected-requires : tie.Need-expected-requires
 expected-requires c κs = search needs
 
-wide-requires : tie.Need-wide-requires
-wide-requires c κs = search needs
+grown-requires : tie.Need-grown-requires
+grown-requires c κs = search needs
 
 add-after : tie.Need-add-after
 add-after c = search needs
@@ -48,7 +48,7 @@ next-spec =
     tie.close
     (tie.spec
     expected-requires
-    wide-requires
+    grown-requires
     add-after
     add-after-2
     sub-after

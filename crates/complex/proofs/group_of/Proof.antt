@@ -1,8 +1,8 @@
--- `complex::run_of` meets its contract. Assumes nothing.
-use Rattle.complex.proofs.Filling.{run-is}
+-- `complex::group_of` meets its contract. Assumes nothing.
+use Rattle.complex.proofs.Filling.{group-is}
 use borrow.Author.Needs.{needs}
-use Rattle.complex.proofs.run_of.Statement.{statement}
-use Rattle.complex.proofs.run_of.Tie as tie
+use Rattle.complex.proofs.group_of.Statement.{statement}
+use Rattle.complex.proofs.group_of.Tie as tie
 
 reference-of-requires : tie.Need-reference-of-requires
 reference-of-requires c κs = search needs
@@ -17,8 +17,8 @@ length-of-requires : tie.Need-length-of-requires
 length-of-requires c κs = search needs
 
 returns : tie.Need-returns
-returns c = run-is _ _ _ (c .before .before .reference-of .ensures .0) (c .before .width-of .ensures .0) (c .length-of .ensures .0)
+returns c = group-is _ _ _ (c .before .before .reference-of .ensures .0) (c .before .width-of .ensures .0) (c .length-of .ensures .0)
 
-pub run-of-spec : {M : Type 1} → statement M
-run-of-spec =
+pub group-of-spec : {M : Type 1} → statement M
+group-of-spec =
     tie.close (tie.spec reference-of-requires cast-t6 width-of-requires length-of-requires returns)

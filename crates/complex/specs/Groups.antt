@@ -10,22 +10,22 @@ use Rattle.format.specs.Layout.{pointSize}
 use Rattle.format.specs.Unpacking.{Codes, codesOf, referenceOf, groupWidth, groupLength, pointsBefore, wrongGroup, pointOf}
 use Rattle.format.specs.declared.Template.{Template}
 use Rattle.format.specs.declared.DecodedValue.{DecodedValue}
-use Rattle.complex.specs.declared.Run.{Run}
+use Rattle.complex.specs.declared.PackedGroup.{PackedGroup}
 
 -- group g
-abbrev pub runAt : Template → Codes → ℕ → Run
-runAt t codes g = record { reference = referenceOf codes g; width = groupWidth t codes g; length = groupLength t codes g }
+abbrev pub groupAt : Template → Codes → ℕ → PackedGroup
+groupAt t codes g = record { reference = referenceOf codes g; width = groupWidth t codes g; length = groupLength t codes g }
 
 -- value k of a group whose values begin at bit p
-abbrev pub valueAt : Run → List ℕ → ℕ → ℕ → ℕ
+abbrev pub valueAt : PackedGroup → List ℕ → ℕ → ℕ → ℕ
 valueAt r payload p k = numberAt payload (p + k * r .width) (r .width)
 
 -- its points
-abbrev pub runPoints : Template → Run → List ℕ → ℕ → List DecodedValue
-runPoints t r payload p = listed (r .length) (λ k. pointOf t (r .width) (r .reference) (valueAt r payload p k))
+abbrev pub groupPoints : Template → PackedGroup → List ℕ → ℕ → List DecodedValue
+groupPoints t r payload p = listed (r .length) (λ k. pointOf t (r .width) (r .reference) (valueAt r payload p k))
 
 -- a group within document 01's limits, somewhere in a payload
-pub record Narrow (r : Run) (p : ℕ) : Type 0 where
+pub record Narrow (r : PackedGroup) (p : ℕ) : Type 0 where
   pub reference : r .reference < 2 ^ 31
   pub width : r .width ≤ 31
   pub length : r .length ≤ 4194304

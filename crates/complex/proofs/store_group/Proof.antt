@@ -1,4 +1,4 @@
--- `complex::store_run` meets its contract. Assumes nothing.
+-- `complex::store_group` meets its contract. Assumes nothing.
 use Prim.Native.Nat.{_+_}
 use lib.ListN.{length}
 use denote.Ref.{now}
@@ -6,8 +6,8 @@ use native.Mathlib.Omega.{arith}
 use borrow.Author.Tests.{leb-true}
 use Rattle.complex.proofs.Storing.{same-is}
 use borrow.Author.Needs.{needs}
-use Rattle.complex.proofs.store_run.Statement.{statement}
-use Rattle.complex.proofs.store_run.Tie as tie
+use Rattle.complex.proofs.store_group.Statement.{statement}
+use Rattle.complex.proofs.store_group.Tie as tie
 
 small-requires : tie.Need-small-requires
 small-requires c κs = search needs
@@ -47,8 +47,8 @@ same-length-2 c = search needs
 returns-2 : tie.Need-returns-2
 returns-2 c = search needs
 
-pub store-run-spec : {M : Type 1} → statement M
-store-run-spec =
+pub store-group-spec : {M : Type 1} → statement M
+store-group-spec =
     tie.close
     (tie.spec
     small-requires
