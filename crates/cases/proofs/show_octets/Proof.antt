@@ -1,25 +1,16 @@
--- `cases::show_part` meets its contract. Assumes nothing.
+-- `cases::show_octets` meets its contract. Assumes nothing.
 use Prim.Native.Nat.{_-_, _≤_}
 use lib.ListN.{length}
 use native.Mathlib.Omega.{arith}
 use borrow.Author.Needs.{needs}
-use Rattle.cases.proofs.show_part.Statement.{statement}
-use Rattle.cases.proofs.show_part.Tie as tie
+use Rattle.cases.proofs.show_octets.Statement.{statement}
+use Rattle.cases.proofs.show_octets.Tie as tie
 
 abbrev Inv-loop : tie.InvT-loop
-Inv-loop payload octets k₀ k = k ≤ length octets
+Inv-loop octets k₀ k = k ≤ length octets
 
 abbrev μ-loop : tie.MeasureT-loop
-μ-loop payload octets k₀ k = length octets - k
-
-part-complex-requires : tie.Need-part-complex-requires Inv-loop μ-loop
-part-complex-requires c κs = search needs
-
-slice-aggregate-write-all : tie.Need-slice-aggregate-write-all Inv-loop μ-loop
-slice-aggregate-write-all c = search needs
-
-write-all-requires : tie.Need-write-all-requires Inv-loop μ-loop
-write-all-requires c κs = search needs
+μ-loop octets k₀ k = length octets - k
 
 loop-holds : tie.Need-loop-holds Inv-loop μ-loop
 loop-holds c = omega arith
@@ -45,15 +36,12 @@ loop-again c = omega arith
 returns : tie.Need-returns Inv-loop μ-loop
 returns c = search needs
 
-pub show-part-spec : {M : Type 1} → statement M
-show-part-spec =
+pub show-octets-spec : {M : Type 1} → statement M
+show-octets-spec =
     tie.close
     (tie.spec
     Inv-loop
     μ-loop
-    part-complex-requires
-    slice-aggregate-write-all
-    write-all-requires
     loop-holds
     shared-slice-read-wide
     wide-requires
