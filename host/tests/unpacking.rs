@@ -771,6 +771,26 @@ fn groups_and_points_have_limits() {
     assert_eq!(lent[most * POINT_OCTETS..], [7; POINT_OCTETS]);
 }
 
+/// Two real fields that other readers read, by their shapes: docs/DIFFERENCES.md, "Other readers".
+#[test]
+fn shapes_of_other_fields_that_are_refused() {
+    // One value at every point: no payload, though width codes and length codes, or descriptors, ask for octets.
+    for (width_bits, length_bits) in [(1, 0), (0, 1), (4, 7)] {
+        let template = template(0, 1, (0, width_bits), (0, 1, 10, length_bits));
+        assert_eq!(compare_right(&complex(template, 10, &[])), 7);
+        assert_eq!(compare_right(&complex(template, 10, &[0, 0])), 0);
+        assert_eq!(compare_right(&spatial(2, 2, template, 10, &[])), 7);
+        assert_eq!(compare_right(&spatial(2, 2, template, 10, &[0; 8])), 0);
+    }
+    // As many points as declared, and more than are accepted, with room for all.
+    const POINTS: u32 = 4_512_981;
+    let template = template(0, 1, (0, 0), (0, 0, POINTS, 0));
+    let mut lent = vec![7; POINTS as usize * POINT_OCTETS];
+    assert_eq!(complex(template, POINTS, &[]).call(&mut lent), 9);
+    assert_eq!(spatial(1, 1, template, POINTS, &[0, 0]).call(&mut lent), 9);
+    assert!(lent.iter().all(|octet| *octet == 7));
+}
+
 /// What stands in a buffer is read as it stands there, and spare octets are not.
 #[test]
 fn points_in_octets() {
