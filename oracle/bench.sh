@@ -4,8 +4,11 @@
 set -eu
 cd "$(dirname "$0")"
 
-OPERATIONS="run_length unpack_complex unpack_spatial_1 unpack_spatial_2"
-# Enough for a steady count, and few enough for callgrind.
+# Each operation of the program, and what it calls: with cleatmow_ before it the C call, with rust_ the oracle's function.
+OPERATIONS="run_length:run_length unpack_complex:unpack_complex
+    unpack_spatial_1:unpack_spatial unpack_spatial_2:unpack_spatial
+    real_gust:unpack_spatial real_conus:unpack_complex real_puerto_rico:unpack_spatial"
+# Of the made maps: enough for a steady count, and few enough for callgrind. The real ones have the points that they have.
 POINTS=100000
 
 cargo build --release --offline --quiet --bin bench
@@ -23,7 +26,8 @@ folder=$(mktemp -d)
 trap 'rm -rf "$folder"' EXIT
 trap 'exit 1' HUP INT TERM
 
-# counted OPERATION SIDE FUNCTION: instructions a point inside the function, in the one call that the side makes.
+# counted OPERATION SIDE FUNCTION: the points, and instructions a point inside the function, in the one call that the side
+# makes.
 counted() {
     valgrind --tool=callgrind --callgrind-out-file="$folder/counts" --toggle-collect="$3" \
         "$bench" "$1" --points "$POINTS" "--only-$2" >"$folder/said" 2>&1 || {
@@ -31,19 +35,21 @@ counted() {
         return 1
     }
     # No map is read for less than an instruction a point: the function was not found.
-    awk -v points="$POINTS" '/^summary:/ { count = $2 }
-        END { if (count < points) exit 1; printf "%.1f\n", count / points }' "$folder/counts" || {
+    points=$(sed -n 's/.*: one call on \([0-9]*\) points$/\1/p' "$folder/said")
+    awk -v points="$points" '/^summary:/ { count = $2 }
+        END { if (points + 0 == 0 || count < points) exit 1; printf "%d %.1f\n", points, count / points }' \
+        "$folder/counts" || {
         echo "bench.sh: callgrind finds no function $3" >&2
         return 1
     }
 }
 
-for operation in $OPERATIONS; do
-    # The order under 5.3 is no part of the functions' names.
-    function=${operation%_[12]}
+for pair in $OPERATIONS; do
+    operation=${pair%:*}
+    function=${pair#*:}
     ours=$(counted "$operation" ours "cleatmow_$function")
     rust=$(counted "$operation" rust "oracle::*::rust_$function")
-    echo "$operation: $POINTS points, instructions a point"
-    echo "  ours, lent buffer  $ours"
-    echo "  Rust, new list     $rust"
+    echo "$operation: ${ours% *} points, instructions a point"
+    echo "  ours, lent buffer  ${ours#* }"
+    echo "  Rust, new list     ${rust#* }"
 done

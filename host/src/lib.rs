@@ -62,6 +62,7 @@
 
 #[allow(unsafe_code)]
 mod ffi;
+#[doc(hidden)]
 pub mod maps;
 mod refusal;
 mod run_length;

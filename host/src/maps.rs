@@ -1,4 +1,5 @@
-//! Sample maps for benchmarks and comparisons, the same at every run and on every machine.
+//! Sample maps for benchmarks and comparisons: public for tests/ and for the programs of oracle/, and hidden from the
+//! documentation, since no host needs them. They are the same at every run and on every machine.
 
 use crate::{Differences, Point, Template};
 

@@ -123,7 +123,7 @@ fn points_are_the_tables() {
 fn damaged_maps_are_refused() {
     for map in MAPS {
         let whole = map.input();
-        for len in [0, 1, whole.payload.len() / 2, whole.payload.len() - 2] {
+        for len in [0, 1, whole.payload.len() / 2, whole.payload.len() - 1] {
             let cut = Input { payload: whole.payload[..len].to_vec(), ..map.input() };
             assert_eq!(cut.points(), Err(Refusal::Short), "{}", map.name);
         }

@@ -1,7 +1,10 @@
 //! Run-length through the C call, against document 01: its cases, its limits, lent buffers, and a plain reference.
 
+mod support;
+
 use cleatmow::maps::{rain, Numbers};
 use cleatmow::{run_length, run_length_into, Refusal, LEVEL_OCTETS, MOST_POINTS};
+use support::guarded;
 
 /// What a call is given beside the lent buffer: b, M, the declared count and the payload.
 type Input<'a> = (u8, u16, u32, &'a [u8]);
@@ -56,28 +59,14 @@ fn reference((bits, max_level, declared, payload): Input, lent: &[u8]) -> (u32, 
     (0, left)
 }
 
-/// Makes the call on `len` lent octets in the middle of more, over a pattern and over its complement, so that no stray
-/// store goes unseen; holds the answer and every octet, lent or around, to the reference's.
+/// Holds the call on `len` lent octets to the reference.
 fn compare(input: Input, len: usize) -> u32 {
-    const GUARD: usize = 16;
     let (bits, max_level, declared, payload) = input;
-    let mut answer = 0;
-    for flip in [0, 0xFF] {
-        let mut all: Vec<u8> = (0..len + 2 * GUARD).map(|place| (place as u8).wrapping_mul(37) ^ flip).collect();
-        let lent = GUARD..GUARD + len;
-        let mut expected = all.clone();
-        let left;
-        (answer, left) = reference(input, &all[lent.clone()]);
-        expected[lent.clone()].copy_from_slice(&left);
-        let called = run_length_into(bits, max_level, declared, payload, &mut all[lent]);
-        let number = called.map_or_else(Refusal::number, |()| 0);
-        assert!(
-            (number, &all) == (answer, &expected),
-            "b {bits}, M {max_level}, declared {declared}, {payload:02X?}, {len} octets lent: \
-             {number} for {answer},\n{all:02X?} for\n{expected:02X?}"
-        );
-    }
-    answer
+    let call = |lent: &mut [u8]| {
+        run_length_into(bits, max_level, declared, payload, lent).map_or_else(Refusal::number, |()| 0)
+    };
+    let shown = format_args!("b {bits}, M {max_level}, declared {declared}, {payload:02X?}");
+    guarded::compare(shown, len, |lent| reference(input, lent), call).0
 }
 
 /// Codes of `bits` bits end to end, and zero bits to the end of the last octet.

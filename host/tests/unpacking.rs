@@ -5,6 +5,7 @@ mod support;
 
 use cleatmow::maps::Numbers;
 use cleatmow::{points_in, Differences, Point, Refusal, Template, MOST_POINTS, POINT_OCTETS};
+use support::guarded;
 use support::model::{self, field, octets_of, payload, template, Input, Written};
 
 /// An input under 5.2, with its declared count.
@@ -47,30 +48,16 @@ fn with(input: &Input, change: impl Fn(&mut Template)) -> Input {
     input
 }
 
-/// Makes the call on `len` lent octets in the middle of more, over a pattern and over its complement, so that no stray
-/// store goes unseen; holds the answer and every octet, lent or around, to the model's. Then holds the points of the
-/// call that lends for itself to the same.
+/// Holds the call on `len` lent octets to the model, and then the points of the call that lends for itself to the same.
 fn compare(input: &Input, len: usize) -> u32 {
-    const GUARD: usize = 16;
-    let mut answer = 0;
-    for flip in [0, 0xFF] {
-        let mut all: Vec<u8> = (0..len + 2 * GUARD).map(|place| (place as u8).wrapping_mul(37) ^ flip).collect();
-        let lent = GUARD..GUARD + len;
-        let mut expected = all.clone();
-        let left;
-        (answer, left) = model::answer(input, &all[lent.clone()]);
-        expected[lent.clone()].copy_from_slice(&left);
-        let number = input.call(&mut all[lent]);
-        assert!(
-            (number, &all) == (answer, &expected),
-            "{input:02X?}, {len} octets lent: {number} for {answer}, first other octet (of {GUARD} before the lent) {:?}",
-            all.iter().zip(&expected).position(|(left, right)| left != right)
-        );
-        match input.points() {
-            Ok(points) if answer == 0 => assert!(expected[GUARD..].starts_with(&octets_of(&points)), "{input:02X?}"),
-            // Room for the declared count is there, so 10 is not its answer, and what comes after 10 may be.
-            points => assert!(answer == 10 || points.err().map(Refusal::number) == Some(answer), "{input:02X?}"),
+    let shown = format_args!("{input:02X?}");
+    let (answer, left) = guarded::compare(shown, len, |lent| model::answer(input, lent), |lent| input.call(lent));
+    match input.points() {
+        Ok(points) if answer == 0 => {
+            assert!(points.len() == input.declared as usize && left.starts_with(&octets_of(&points)), "{input:02X?}");
         }
+        // Room for the declared count is there, so 10 is not its answer, and what comes after 10 may be.
+        points => assert!(answer == 10 || points.err().map(Refusal::number) == Some(answer), "{input:02X?}"),
     }
     answer
 }
@@ -769,6 +756,26 @@ fn groups_and_points_have_limits() {
     assert_eq!(complex(one(MOST_POINTS), MOST_POINTS, values).call(&mut lent), 0);
     assert!(lent[..most * POINT_OCTETS].chunks_exact(9).all(|point| point[..8] == [0; 8] && point[8] < 2));
     assert_eq!(lent[most * POINT_OCTETS..], [7; POINT_OCTETS]);
+}
+
+/// Two real fields that other readers read, by their shapes: docs/DIFFERENCES.md, "Other readers".
+#[test]
+fn shapes_of_other_fields_that_are_refused() {
+    // One value at every point: no payload, though width codes and length codes, or descriptors, ask for octets.
+    for (width_bits, length_bits) in [(1, 0), (0, 1), (4, 7)] {
+        let template = template(0, 1, (0, width_bits), (0, 1, 10, length_bits));
+        assert_eq!(compare_right(&complex(template, 10, &[])), 7);
+        assert_eq!(compare_right(&complex(template, 10, &[0, 0])), 0);
+        assert_eq!(compare_right(&spatial(2, 2, template, 10, &[])), 7);
+        assert_eq!(compare_right(&spatial(2, 2, template, 10, &[0; 8])), 0);
+    }
+    // As many points as declared, and more than are accepted, with room for all.
+    const POINTS: u32 = 4_512_981;
+    let template = template(0, 1, (0, 0), (0, 0, POINTS, 0));
+    let mut lent = vec![7; POINTS as usize * POINT_OCTETS];
+    assert_eq!(complex(template, POINTS, &[]).call(&mut lent), 9);
+    assert_eq!(spatial(1, 1, template, POINTS, &[0, 0]).call(&mut lent), 9);
+    assert!(lent.iter().all(|octet| *octet == 7));
 }
 
 /// What stands in a buffer is read as it stands there, and spare octets are not.

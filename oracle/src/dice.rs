@@ -1,22 +1,21 @@
-//! Numbers that look random and are the same in every run: the generator splitmix64.
+//! Numbers that look random and are the same in every run.
 
-pub struct Dice(u64);
+use cleatmow::maps::Numbers;
+
+pub struct Dice(Numbers);
 
 impl Dice {
     pub fn new(seed: u64) -> Self {
-        Self(seed)
+        Self(Numbers::new(seed))
     }
 
     pub fn number(&mut self) -> u64 {
-        self.0 = self.0.wrapping_add(0x9e37_79b9_7f4a_7c15);
-        let mixed = (self.0 ^ (self.0 >> 30)).wrapping_mul(0xbf58_476d_1ce4_e5b9);
-        let mixed = (mixed ^ (mixed >> 27)).wrapping_mul(0x94d0_49bb_1331_11eb);
-        mixed ^ (mixed >> 31)
+        self.0.any()
     }
 
     /// A number from 0 to `limit` - 1.
     pub fn below(&mut self, limit: u64) -> u64 {
-        self.number() % limit
+        self.0.below(limit)
     }
 
     /// True once in `odds` throws.

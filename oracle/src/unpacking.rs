@@ -1,6 +1,9 @@
 //! Document 01's unpacking under 5.2 and 5.3, written plainly for the programs here: it has to be known how many points
 //! an input has before the Rust is let at them, and whether the Rust can judge it at all. Sums over points are in 128 bits,
 //! so that none can overflow.
+//!
+//! `host/tests/support/model.rs` says the same. The two are written apart on purpose, each from document 01 and neither
+//! from the other, as two witnesses: a slip of one should not be a slip of both.
 
 use crate::dice::Dice;
 use crate::runs::MOST_POINTS;

@@ -2,6 +2,7 @@
 
 #![allow(dead_code)]
 
+pub mod guarded;
 pub mod model;
 pub mod others;
 pub mod section5;

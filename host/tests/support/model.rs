@@ -1,5 +1,8 @@
 //! Unpacking under 5.2 and 5.3 as document 01 says it, written plainly: numbers of 128 bits, read one bit at a time,
 //! without care for speed. And what makes inputs for it.
+//!
+//! `oracle/src/unpacking.rs` says the same. The two are written apart on purpose, each from document 01 and neither from
+//! the other, as two witnesses: a slip of one should not be a slip of both.
 
 use cleatmow::{Differences, Point, Refusal, Template};
 

@@ -12,6 +12,11 @@ fn main() {
     println!("{}", oracle::NOT_RUN);
 }
 
+// Section 5 of a real map, as the host's tests read it.
+#[cfg(have_text)]
+#[path = "../../../host/tests/support/section5.rs"]
+mod section5;
+
 #[cfg(have_text)]
 fn main() {
     let Some(options) = bench::Options::from_words(std::env::args().skip(1)) else {
@@ -28,10 +33,12 @@ mod bench {
 
     use cleatmow::maps::{ComplexMap, RunLengthMap, gust_differences, gusts, rain};
     use cleatmow::{
-        Differences, LEVEL_OCTETS, MOST_POINTS, POINT_OCTETS, Point, Template, points_in, run_length, run_length_into,
-        unpack_complex, unpack_complex_into, unpack_spatial, unpack_spatial_into,
+        LEVEL_OCTETS, MOST_POINTS, POINT_OCTETS, Point, points_in, run_length, run_length_into, unpack_complex,
+        unpack_complex_into, unpack_spatial, unpack_spatial_into,
     };
-    use oracle::{Section7, rust_run_length, rust_unpack_complex, rust_unpack_spatial};
+    use oracle::{Outcome, Section7, rust_run_length, rust_unpack_complex, rust_unpack_spatial};
+
+    use crate::section5::Section5;
 
     /// A map of samples/, by its name.
     macro_rules! real {
@@ -43,8 +50,8 @@ mod bench {
         };
     }
 
-    /// Every operation: with `cleatmow_` before its name it is the C call, with `rust_` the oracle's function. Under 5.3
-    /// the order stands at the end of the name, and is no part of theirs; a real map names neither.
+    /// Every operation, by a name of this program's own. `bench.sh` says which C call and which function of the oracle
+    /// are behind it.
     const OPERATIONS: [(&str, Run); 7] = [
         ("run_length", |name, options| bench(name, RunLength::new(options.points), options)),
         ("unpack_complex", |name, options| bench(name, Unpacking::new(gusts(options.points)), options)),
@@ -57,29 +64,17 @@ mod bench {
 
     /// The host's tests hold its points to their digests; here they are what the Rust makes of it.
     fn real(section_5: &[u8], section_7: &[u8]) -> ComplexMap {
-        let long = |octet: usize| u32::from_be_bytes(section_5[octet - 1..octet + 3].try_into().expect("four octets"));
-        let short = |octet: usize| section_5[octet - 1];
-        let template = Template {
-            number_width: short(20),
-            splitting: short(22),
-            missing: short(23),
-            groups: long(32),
-            width_reference: short(36),
-            width_bits: short(37),
-            length_reference: long(38),
-            length_increment: short(42),
-            last_length: long(43),
-            length_bits: short(47),
-        };
-        let differences =
-            (section_5.len() > 47).then(|| Differences { order: short(48), descriptor_octets: short(49) });
+        let section_5 = Section5::from_octets(section_5.to_vec()).expect("a whole Section 5");
+        let template = section_5.template();
+        let differences = (section_5.template_number() == 3).then(|| section_5.differences());
         let payload = section_7[5..].to_vec();
-        let section = Section7::new(&payload);
+        // Not by the functions that are timed: their instructions are counted wherever they are called from.
         let points = match &differences {
-            None => rust_unpack_complex(&template, &section),
-            Some(differences) => rust_unpack_spatial(&template, differences, &section),
+            None => oracle::unpack_complex(&template, &payload),
+            Some(differences) => oracle::unpack_spatial(&template, differences, &payload),
         };
-        ComplexMap { template, differences, declared: long(6), payload, points: points.expect("a good map") }
+        let Outcome::Answer(points) = points else { panic!("not a good map") };
+        ComplexMap { template, differences, declared: section_5.declared(), payload, points }
     }
 
     /// Does with an operation of this name what the options say.
