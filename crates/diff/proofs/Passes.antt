@@ -1,42 +1,23 @@
 -- All points, one after another. Assumes nothing.
-use mathlib.Core.Path.{_≡_, refl, sym, ap, _∙_}
+use mathlib.Core.Path.{_≡_, refl, sym, ap, subst, _∙_}
 use mathlib.Core.Bool.{Bool, true, false, not, true≢false}
 use mathlib.Core.List.{List, [], _∷_, _++_, append-assoc, append-nil, map, flatMap}
 use Prim.Native.Nat.{ℕ, suc, _+_, _*_, _≤_, _<_}
 use native.Mathlib.Omega.{arith}
-use lib.ListN.{length, getD, drop, length-append}
+use lib.ListN.{length, drop, length-append}
 use lib.Seq.{drop-at}
 use Rattle.format.specs.Lists.{anyOf, _over_}
 use Rattle.format.specs.Layout.{pointOctets}
 use Rattle.format.specs.Differences.{restored, restoredFrom, beyond}
 use Rattle.format.specs.declared.Differencing.{Differencing}
 use Rattle.format.specs.declared.DecodedValue.{DecodedValue}
-use Rattle.format.specs.declared.DecodedValue.the-variants.{Missing1}
 use Rattle.laws.specs.Lists.{any-append}
 use Rattle.laws.specs.Points.{size-points}
 use Rattle.laws.specs.Stores.{flat-append}
-use Rattle.diff.specs.Restoring.{Small, Holding, Steady, from, Comes, Lying, Went, Stopped, firstRestoring, Outcome, Orderly, Described, Restored}
+use Rattle.diff.specs.Restoring.{Holding, Steady, from, Comes, Lying, Went, Stopped, settled, firstRestoring, Walking, Passing, Outcome, Orderly, Described, Restored}
 use Rattle.diff.specs.declared.Descriptors.{Descriptors}
 use Rattle.diff.specs.declared.Restoring.{Restoring}
 use Rattle.diff.proofs.Kept.{kept-zero}
-
--- for some packed points: those before point k are restored, and none of them is beyond
-pub record Walking (order : ℕ) (x : Descriptors) (packed : List DecodedValue) (count : ℕ) (lent : List ℕ) (r : Restoring) (k : ℕ) (octets : List ℕ) : Type 0 where
-  pub done : List DecodedValue
-  pub left : List DecodedValue
-  pub done-is : length done ≡ k
-  pub left-is : k + length left ≡ count
-  pub small : (j : ℕ) → j < length left → Small (getD left j Missing1)
-  pub all : from order x (firstRestoring order) packed ≡ done ++ from order x r left
-  pub within : anyOf beyond done ≡ false
-  pub there : octets ≡ flatMap pointOctets done ++ (flatMap pointOctets left ++ drop (count * 9) lent)
-
--- and for whatever packed points the lent octets hold
-pub record Passing (order : ℕ) (x : Descriptors) (count : ℕ) (lent : List ℕ) (r : Restoring) (k : ℕ) (octets : List ℕ) : Type 0 where
-  pub some : k ≤ count
-  pub long : length octets ≡ length lent
-  pub steady : Steady order r
-  pub exact : (packed : List DecodedValue) → Holding packed count lent → Walking order x packed count lent r k octets
 
 pub passing-start : (order : ℕ) (x : Descriptors) (count : ℕ) (lent : List ℕ) → Passing order x count lent (firstRestoring order) 0 lent
 unfolding flatMap anyOf
@@ -165,6 +146,43 @@ module _ {order : ℕ} {x : Descriptors} {count : ℕ} {lent : List ℕ} {r : Re
         long = p .long;
         past = past w;
       }
+
+-- ---- once no first value is still to come
+
+pub passing-settled : {order : ℕ} {x : Descriptors} {count : ℕ} {lent : List ℕ} {r : Restoring} {k : ℕ} {octets : List ℕ} → r .left ≡ 0
+    → Passing order x count lent r k octets → Passing order x count lent (settled (r .previous) (r .before)) k octets
+passing-settled {order} {x} {count} {lent} {r} {k} {octets} e p =
+    subst (λ (q : Restoring). Passing order x count lent q k octets) (ap (λ (n : ℕ). record { left = n; previous = r .previous; before = r .before }) e) p
+
+pub steady-settled : {order : ℕ} {r : Restoring} → Steady order r → Steady order (settled (r .previous) (r .before))
+steady-settled s = record { few = omega arith; previous = s .previous; before = s .before }
+
+-- the points from one on, as far as point k
+pub record Going (order : ℕ) (x : Descriptors) (count : ℕ) (r₀ : Restoring) (k₀ : ℕ) (octets₀ : List ℕ) (r : Restoring) (k : ℕ) (octets : List ℕ) : Type 0 where
+  pub some : k ≤ count
+  pub long : length octets ≡ length octets₀
+  pub steady : Steady order r
+  pub onward : (lent : List ℕ) → Passing order x count lent r₀ k₀ octets₀ → Passing order x count lent r k octets
+
+pub going-start : {order : ℕ} (x : Descriptors) {count : ℕ} {r : Restoring} {k : ℕ} (octets : List ℕ) → Steady order r → k ≤ count → Going order x count r k octets r k octets
+going-start x octets s l = record { some = l; long = refl; steady = s; onward = λ lent p. p }
+
+module _ {order : ℕ} {x : Descriptors} {count : ℕ} {r₀ : Restoring} {k₀ : ℕ} {octets₀ : List ℕ} {r : Restoring} {k : ℕ} {octets : List ℕ} (g : Going order x count r₀ k₀ octets₀ r k octets) where
+  pub going-more : {octets′ : List ℕ} {next : Restoring} → Went order x r k octets octets′ next → k < count → Going order x count r₀ k₀ octets₀ next (k + 1) octets′
+  going-more m l = record {
+    some = omega arith;
+    long = m .long ∙ g .long;
+    steady = m .steady;
+    onward = λ lent p. passing-more (g .onward lent p) m l;
+  }
+
+  pub going-beyond : {octets′ : List ℕ} → Stopped order x r k octets octets′ → k < count → (lent : List ℕ) → Passing order x count lent r₀ k₀ octets₀
+      → (packed : List DecodedValue) → Holding packed count lent → Outcome (from order x (firstRestoring order) packed) count false lent octets′
+  going-beyond m l lent p = passing-beyond (g .onward lent p) m l
+
+  pub going-end : count ≤ k → (lent : List ℕ) → Passing order x count lent r₀ k₀ octets₀
+      → (packed : List DecodedValue) → Holding packed count lent → Outcome (from order x (firstRestoring order) packed) count true lent octets
+  going-end l lent p = passing-end (g .onward lent p) l
 
 -- ---- what the payload says
 

@@ -154,6 +154,28 @@ module _ (order : ℕ) (x : Descriptors) where
 abbrev pub firstRestoring : ℕ → Restoring
 firstRestoring order = record { left = order; previous = bias; before = bias }
 
+-- no first value is still to come
+abbrev pub settled : ℕ → ℕ → Restoring
+settled previous before = record { left = 0; previous = previous; before = before }
+
+-- for some packed points: those before point k are restored, and none of them is beyond
+pub record Walking (order : ℕ) (x : Descriptors) (packed : List DecodedValue) (count : ℕ) (lent : List ℕ) (r : Restoring) (k : ℕ) (octets : List ℕ) : Type 0 where
+  pub done : List DecodedValue
+  pub left : List DecodedValue
+  pub done-is : length done ≡ k
+  pub left-is : k + length left ≡ count
+  pub small : (j : ℕ) → j < length left → Small (getD left j Missing1)
+  pub all : from order x (firstRestoring order) packed ≡ done ++ from order x r left
+  pub within : anyOf beyond done ≡ false
+  pub there : octets ≡ flatMap pointOctets done ++ (flatMap pointOctets left ++ drop (count * 9) lent)
+
+-- and for whatever packed points the lent octets hold
+pub record Passing (order : ℕ) (x : Descriptors) (count : ℕ) (lent : List ℕ) (r : Restoring) (k : ℕ) (octets : List ℕ) : Type 0 where
+  pub some : k ≤ count
+  pub long : length octets ≡ length lent
+  pub steady : Steady order r
+  pub exact : (packed : List DecodedValue) → Holding packed count lent → Walking order x packed count lent r k octets
+
 -- of all points, `size` in number: whether their numbers are within 2^60 either way; and where they are, the points stand
 -- in the place of the packed ones
 pub record Outcome (points : List DecodedValue) (size : ℕ) (within : Bool) (before after : List ℕ) : Type 0 where

@@ -2,14 +2,14 @@
 // left the packed ones. A number that may be below zero is kept with 2^62 − 1 added to it.
 ghost use mathlib.Core.Path.{_≡_};
 ghost use mathlib.Core.List.{List};
-ghost use Prim.Native.Nat.{_+_, _*_, _<_, _≤_, _^_};
+ghost use Prim.Native.Nat.{ℕ, _+_, _*_, _<_, _≤_, _^_};
 ghost use lib.ListN.{length};
 ghost use Rattle.format.specs.Bits.{numberAt};
 ghost use Rattle.format.specs.Layout.{pointSize};
 ghost use Rattle.format.specs.Differences.{beyond};
 ghost use Rattle.format.specs.declared.DecodedValue.{DecodedValue};
 ghost use Rattle.format.specs.declared.DecodedValue.the-variants.{Normal};
-ghost use Rattle.diff.specs.Restoring.{Orderly, Holding, Restored, bias, kept, Near, Bounded, Minimum, Described, Expected, Steady, Next, Told, Outcome, following, from, firstRestoring};
+ghost use Rattle.diff.specs.Restoring.{Orderly, Holding, Restored, bias, kept, Near, Bounded, Minimum, Described, Expected, Steady, Next, Told, Outcome, following, from, settled, firstRestoring, Passing};
 use format::BitPlace;
 use format::Differencing;
 
@@ -154,7 +154,37 @@ fn restored(
     Turn::On(next)
 }
 
-// Restores the points, as far as none is beyond.
+// Restores the points from one on, as far as none is beyond. That no first value is still to come is known here, so that it
+// is not asked for at each point.
+fn later_restored(
+    order: usize,
+    descriptors: Descriptors,
+    previous: u64,
+    before: u64,
+    points: &mut [u8],
+    start: usize,
+    count: usize,
+) -> bool
+    requires { ⌜ (0 < order) × (order ≤ 2) × Bounded descriptors × Steady order (settled previous before) × (start ≤ count) × (count * pointSize ≤ length (now points)) ⌝ }
+    ensures { λ r. ⌜ ((lent : List ℕ) → Passing order descriptors count lent (settled previous before) start (now (points .entry)) → (packed : List DecodedValue) → Holding packed count lent → Outcome (from order descriptors (firstRestoring order) packed) count r lent (now (points .exit))) ⌝ }
+{
+    let mut restoring = Restoring {
+        left: 0,
+        previous,
+        before,
+    };
+    let mut k = start;
+    while k < count {
+        let Turn::On(next) = restored(order, descriptors, restoring, points, k) else {
+            return false;
+        };
+        restoring = next;
+        k += 1;
+    }
+    true
+}
+
+// Restores all points, as far as none is beyond.
 fn all_restored(order: usize, descriptors: Descriptors, points: &mut [u8], count: usize) -> bool
     requires { ⌜ (0 < order) × (order ≤ 2) × Bounded descriptors × (count * pointSize ≤ length (now points)) ⌝ }
     ensures { λ r. ⌜ ((packed : List DecodedValue) → Holding packed count (now (points .entry)) → Outcome (from order descriptors (firstRestoring order) packed) count r (now (points .entry)) (now (points .exit))) ⌝ }
@@ -166,6 +196,11 @@ fn all_restored(order: usize, descriptors: Descriptors, points: &mut [u8], count
     };
     let mut k = 0usize;
     while k < count {
+        if restoring.left == 0 {
+            let previous = restoring.previous;
+            let before = restoring.before;
+            return later_restored(order, descriptors, previous, before, points, k, count);
+        }
         let Turn::On(next) = restored(order, descriptors, restoring, points, k) else {
             return false;
         };
