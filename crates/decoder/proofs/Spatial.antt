@@ -1,19 +1,17 @@
 -- Unpacking under 5.3: the same decisions behind the descriptors, then restoring. Assumes nothing.
 use mathlib.Core.Path.{_≡_, refl, ap, _∙_}
-use mathlib.Core.List.{List, [], _∷_, _++_, flatMap}
+use mathlib.Core.List.{List, _++_, flatMap}
 use Prim.Native.Nat.{ℕ, _*_, _^_, _≤_, _<_}
 use native.Mathlib.Omega.{arith}
-use lib.Dec.{ltb}
 use lib.ListN.{length, drop}
 use lib.Seq.{drop-at}
 use Rattle.format.specs.Lists.{_over_}
-use Rattle.format.specs.Refusals.{Row, _gives_, left}
+use Rattle.format.specs.Refusals.{Row, left}
 use Rattle.format.specs.Layout.{pointOctets}
 use Rattle.format.specs.Template.{descriptorsEnd, orderRefusals, kindRefusals, descriptorRefusals}
 use Rattle.format.specs.Unpacking.{codesOf, pointsBefore, saidBy, pointsUpTo, locatedRefusals}
-use Rattle.format.specs.Differences.{locate53, refusals53, restoredFrom, points53, left53, unpack53}
+use Rattle.format.specs.Differences.{descriptorsShort, locate53, refusals53, restoredFrom, points53, left53, unpack53}
 use Rattle.format.specs.declared.Refusal.{Refusal}
-use Rattle.format.specs.declared.Refusal.the-variants.{Short}
 use Rattle.format.specs.declared.Template.{Template}
 use Rattle.format.specs.declared.Differencing.{Differencing}
 use Rattle.format.specs.declared.DecodedValue.{DecodedValue}
@@ -37,7 +35,7 @@ use Rattle.decoder.proofs.Restoring.{left53-same, length-from}
 
 -- 3, 1, 2, 4, "7 for descriptors"
 abbrev before53 : Template → Differencing → List ℕ → List Row
-before53 t d payload = orderRefusals d ++ kindRefusals t ++ descriptorRefusals d ++ (ltb (length payload) (descriptorsEnd d) gives Short ∷ [])
+before53 t d payload = orderRefusals d ++ kindRefusals t ++ descriptorRefusals d ++ descriptorsShort d payload
 
 -- an input that is refused by nothing but 12
 pub record Accepted53 (t : Template) (d : Differencing) (declared : ℕ) (payload lent : List ℕ) : Type 0 where

@@ -74,11 +74,16 @@ restoredFrom d payload packed =
 unfoldable pub points53 : Template → Differencing → List ℕ → List DecodedValue
 points53 t d payload = restoredFrom d payload (pointsUpTo t (saidBy (descriptorsEnd d) t payload) (t .groups))
 
+-- "7 for descriptors"
+abbrev pub descriptorsShort : Differencing → List ℕ → List Row
+descriptorsShort d payload =
+    ltb (length payload) (descriptorsEnd d) gives Short
+    ∷ []
+
 -- 3, 1, 2, 4, "7 for descriptors, then from 6 on as for 5.2", as far as 7 for the values
 abbrev pub located53Refusals : Template → Differencing → List ℕ → List Row
 located53Refusals t d payload =
-    orderRefusals d ++ kindRefusals t ++ descriptorRefusals d
-    ++ (ltb (length payload) (descriptorsEnd d) gives Short ∷ [])
+    orderRefusals d ++ kindRefusals t ++ descriptorRefusals d ++ descriptorsShort d payload
     ++ locatedRefusals (descriptorsEnd d) t payload
 
 unfoldable pub locate53 : Template → Differencing → List ℕ → Located

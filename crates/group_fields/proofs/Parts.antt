@@ -1,22 +1,20 @@
 -- A part lies within its payload. Assumes nothing.
 use mathlib.Core.Path.{_≡_, refl, _∙_}
-use mathlib.Core.List.{List, [], _∷_, _++_}
+use mathlib.Core.List.{List, _++_}
 use Prim.Native.Nat.{ℕ, _-_, _≤_}
 use native.Mathlib.Omega.{arith}
-use lib.Dec.{ltb}
 use lib.ListN.{length, take, drop}
 use lib.Seq.{slice}
-use Rattle.format.specs.Refusals.{Row, _gives_}
+use Rattle.format.specs.Refusals.{Row}
 use Rattle.format.specs.Template.{widthsAt, lengthsAt, valuesAt, descriptorsEnd, orderRefusals, kindRefusals, descriptorRefusals}
 use Rattle.format.specs.Unpacking.{codesOf, pointsBefore, placesOf, locatedBy, locatedRefusals, locate52, partOf}
-use Rattle.format.specs.Differences.{locate53}
+use Rattle.format.specs.Differences.{descriptorsShort, locate53}
 use Rattle.format.specs.declared.Template.{Template}
 use Rattle.format.specs.declared.Differencing.{Differencing}
 use Rattle.format.specs.declared.Places.{Places}
 use Rattle.format.specs.declared.Part.{Part}
 use Rattle.format.specs.declared.Part.the-variants.{References, Widths, Lengths, Values}
 use Rattle.format.specs.declared.Refusal.{Refusal}
-use Rattle.format.specs.declared.Refusal.the-variants.{Short}
 use Rattle.format.specs.declared.Located.{Located}
 use Rattle.format.specs.declared.Located.the-variants as located
 use Rattle.laws.specs.First.{passed, clear-later, tests}
@@ -82,7 +80,7 @@ module _ (t : Template) (payload : List ℕ) (part : Part) {x : Located} {b : Bo
   unfolding locate53
   held-53 d e eb =
       rw eb
-      (part-held (orderRefusals d ++ kindRefusals t ++ descriptorRefusals d ++ (ltb (length payload) (descriptorsEnd d) gives Short ∷ [])) (descriptorsEnd d) t payload part x e)
+      (part-held (orderRefusals d ++ kindRefusals t ++ descriptorRefusals d ++ descriptorsShort d payload) (descriptorsEnd d) t payload part x e)
 
 pub part-taken : (part : Part) (payload : List ℕ) {x y : Located} {b : Bounds} → x ≡ y → b ≡ boundsOf part x
     → take (b .to .0 - b .from .0) (drop (b .from .0) payload) ≡ partOf part payload y

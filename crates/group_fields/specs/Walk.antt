@@ -1,14 +1,12 @@
 -- What the inner functions are asked, and which rows are left to them. Assumes nothing.
 use Prim.Native.Nat.{ℕ, _+_, _≤_, _<_, _^_}
 use mathlib.Core.Path.{_≡_}
-use mathlib.Core.List.{List, [], _∷_, _++_}
-use lib.Dec.{ltb}
-use lib.ListN.{length}
+use mathlib.Core.List.{List, _++_}
 use Rattle.format.specs.Bits.{roundedUp}
-use Rattle.format.specs.Refusals.{Row, _gives_}
+use Rattle.format.specs.Refusals.{Row}
 use Rattle.format.specs.Template.{widthsAt, lengthsAt, valuesAt, descriptorsEnd, descriptorRefusals}
 use Rattle.format.specs.Unpacking.{locatedRefusals}
-use Rattle.format.specs.declared.Refusal.the-variants.{Short}
+use Rattle.format.specs.Differences.{descriptorsShort}
 use Rattle.format.specs.declared.Template.{Template}
 use Rattle.format.specs.declared.Differencing.{Differencing}
 use Rattle.format.specs.declared.Places.{Places}
@@ -50,4 +48,4 @@ endedBy f bits = record {
 -- "4, 7 for descriptors, then from 6 on as for 5.2"
 abbrev pub describedRefusals : Template → Differencing → List ℕ → List Row
 describedRefusals t d payload =
-    descriptorRefusals d ++ (ltb (length payload) (descriptorsEnd d) gives Short ∷ []) ++ locatedRefusals (descriptorsEnd d) t payload
+    descriptorRefusals d ++ descriptorsShort d payload ++ locatedRefusals (descriptorsEnd d) t payload

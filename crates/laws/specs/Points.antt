@@ -171,6 +171,19 @@ mark-zero t w reference value = by-test (eqb w 0)
     by-test true = mark-decoded (ltb 0 (t .management) && eqb reference (2 ^ t .width - 1)) (eqb (t .management) 2 && eqb reference (2 ^ t .width - 2)) (pos reference)
     by-test false = mark-decoded (ltb 0 (t .management) && eqb value (2 ^ w - 1)) (eqb (t .management) 2 && eqb value (2 ^ w - 2)) (pos (value + reference))
 
+-- at every place of a payload
+pub mark-placed : (start : ℕ) (t : Template) (payload : List ℕ) (d : DecodedValue) (g k : ℕ) → g < t .groups → k < groupLength t (codesOf start t payload) g
+    → (let codes = codesOf start t payload in
+    let w = groupWidth t codes g in
+    eqb (markOf (getD (pointsUpTo t (saidBy start t payload) (t .groups)) (pointsBefore t codes g + k) d)) 0
+    ≡ not (cond (eqb w 0) (missingCode t (t .width) (referenceOf codes g)) (missingCode t w (numberAt payload (valuePlace start t codes g k) w))))
+unfolding saidBy
+mark-placed start t payload d g k l m =
+    let codes = codesOf start t payload in
+    let w = groupWidth t codes g in
+    ap (λ (p : DecodedValue). eqb (markOf p) 0) (point-placed t (saidBy start t payload) d (t .groups) g k l m ∙ point-read start t payload g k l m)
+    ∙ mark-zero t w (referenceOf codes g) (numberAt payload (valuePlace start t codes g k) w)
+
 -- "a missing point holds number 0"
 pub missing-holds : (point : DecodedValue) → (markOf point ≡ 0 → ⊥) → heldBy point ≡ pos 0
 missing-holds (Normal z) h = absurd (h refl)
