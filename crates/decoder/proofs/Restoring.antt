@@ -21,6 +21,7 @@ use Rattle.laws.specs.Lists.{length-map}
 use Rattle.laws.specs.Points.{size-points}
 use Rattle.laws.specs.Stores.{sets-front}
 use Rattle.diff.specs.Restoring.{Holding, Restored}
+use Rattle.diff.proofs.Passes.{far-all}
 
 -- ---- what is over one buffer is over another that is the same past it
 
@@ -61,7 +62,8 @@ module _ (d : Differencing) (payload : List ℕ) (declared : ℕ) (lent : List �
   restored-within e packed h =
       let x = restores packed h in
       let none : anyOf beyond (restoredFrom d payload packed) ≡ false = not-true (anyOf beyond (restoredFrom d payload packed)) (sym (x .answer) ∙ e) in
-      rw none (ap (left (unpacked.Points declared)) (x .there e))
+      let all = far-all (restoredFrom d payload packed) packed none (sym (length-from d payload packed)) in
+      rw none (ap (left (unpacked.Points declared)) (x .there ∙ ap (λ (l : List DecodedValue). flatMap pointOctets l over lent) all))
 
   pub restored-beyond : within ≡ false → declared * 9 ≤ length lent → {z : ℤ} {cleared : List ℕ} → z ≡ pos 0
       → cleared ≡ sets after (0 * 9) (flatMap pointOctets (replicate count (Normal z)))

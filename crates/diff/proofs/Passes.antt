@@ -1,5 +1,5 @@
 -- All points, one after another. Assumes nothing.
-use mathlib.Core.Path.{_≡_, refl, sym, ap, subst, _∙_}
+use mathlib.Core.Path.{_≡_, refl, sym, ap, ap₂, subst, _∙_}
 use mathlib.Core.Bool.{Bool, true, false, not, true≢false}
 use mathlib.Core.List.{List, [], _∷_, _++_, append-assoc, append-nil, map, flatMap}
 use Prim.Native.Nat.{ℕ, suc, _+_, _*_, _≤_, _<_}
@@ -14,10 +14,28 @@ use Rattle.format.specs.declared.DecodedValue.{DecodedValue}
 use Rattle.laws.specs.Lists.{any-append}
 use Rattle.laws.specs.Points.{size-points}
 use Rattle.laws.specs.Stores.{flat-append}
-use Rattle.diff.specs.Restoring.{Holding, Steady, from, Comes, Lying, Went, Stopped, settled, firstRestoring, Walking, Passing, Outcome, Orderly, Described, Restored}
+use Rattle.diff.specs.Restoring.{Holding, Steady, from, Comes, Lying, Went, Stopped, settled, firstRestoring, Walking, Passing, asFar, Outcome, Orderly, Described, Restored}
 use Rattle.diff.specs.declared.Descriptors.{Descriptors}
 use Rattle.diff.specs.declared.Restoring.{Restoring}
 use Rattle.diff.proofs.Kept.{kept-zero}
+
+-- points of which none is beyond are gone through
+far-append : (done points was packed : List DecodedValue) → anyOf beyond done ≡ false → length was ≡ length done → asFar (done ++ points) (was ++ packed) ≡ done ++ asFar points packed
+unfolding anyOf asFar
+far-append [] points [] packed h e = refl
+far-append [] points (w ∷ was) packed h e = absurd (omega arith)
+far-append (d ∷ done) points [] packed h e = absurd (omega arith)
+far-append (d ∷ done) points (w ∷ was) packed h e = by-test (beyond d) refl (λ n. far-append done points was packed n (omega arith))
+  where
+    by-test : (t : Bool) → beyond d ≡ t → (anyOf beyond done ≡ false → asFar (done ++ points) (was ++ packed) ≡ done ++ asFar points packed)
+        → asFar (d ∷ (done ++ points)) (w ∷ (was ++ packed)) ≡ d ∷ (done ++ asFar points packed)
+    by-test true t again = absurd (true≢false (rw t at h))
+    by-test false t again = rw t (ap (λ (l : List DecodedValue). d ∷ l) (again (rw t at h)))
+
+-- and where none is, all of them stand there
+pub far-all : (points packed : List DecodedValue) → anyOf beyond points ≡ false → length packed ≡ length points → asFar points packed ≡ points
+unfolding asFar
+far-all points packed h e = ap₂ asFar (sym (append-nil points)) (sym (append-nil packed)) ∙ far-append points [] packed [] h e ∙ append-nil points
 
 pub passing-start : (order : ℕ) (x : Descriptors) (count : ℕ) (lent : List ℕ) → Passing order x count lent (firstRestoring order) 0 lent
 unfolding flatMap anyOf
@@ -30,8 +48,11 @@ passing-start order x count lent = record {
     before = record { low = omega arith; high = omega arith };
   };
   exact = λ packed h. record {
+    was = [];
     done = [];
     left = packed;
+    was-is = refl;
+    was-long = refl;
     done-is = refl;
     left-is = omega (arith, h .long);
     small = λ j l. h .small j (omega (arith, h .long));
@@ -74,8 +95,11 @@ module _ {order : ℕ} {x : Descriptors} {packed : List DecodedValue} {count : �
           let t = m .exact point front (behind more) (lies e) in
           let last : List DecodedValue = t .point ∷ [] in
           record {
+            was = w .was ++ (point ∷ []);
             done = w .done ++ last;
             left = more;
+            was-is = w .was-is ∙ ap (λ (l : List DecodedValue). w .was ++ l) e ∙ sym (append-assoc (w .was) (point ∷ []) more);
+            was-long = length-append (w .was) (point ∷ []) ∙ omega (arith, w .was-long, length-append (w .done) last);
             done-is = length-append (w .done) last ∙ omega (arith, w .done-is);
             left-is = omega (arith, w .left-is, ap length e);
             small = λ j i. rw e at (w .small) (suc j) (omega arith);
@@ -94,27 +118,41 @@ module _ {order : ℕ} {x : Descriptors} {packed : List DecodedValue} {count : �
       let size : length (front ++ left) ≡ count * 9 = length-append front left ∙ omega (arith, size-points (w .done), size-points (w .left), w .done-is, w .left-is) in
       rw (w .there, ← append-assoc front left (drop (count * 9) lent)) (drop-at (front ++ left) (drop (count * 9) lent) (count * 9) size)
 
+  -- restoring ends where what is left stays
+  ended : asFar (from order x r (w .left)) (w .left) ≡ w .left → octets ≡ flatMap pointOctets (asFar (from order x (firstRestoring order) packed) packed) over lent
+  ended f =
+      let left = flatMap pointOctets (w .left) in
+      let all = w .done ++ w .left in
+      let size : length (flatMap pointOctets all) ≡ count * 9 = size-points all ∙ omega (arith, length-append (w .done) (w .left), w .done-is, w .left-is) in
+      let far : asFar (from order x (firstRestoring order) packed) packed ≡ all =
+      ap₂ asFar (w .all) (w .was-is) ∙ far-append (w .done) (from order x r (w .left)) (w .was) (w .left) (w .within) (w .was-long) ∙ ap (λ (l : List DecodedValue). w .done ++ l) f in
+      let stands : octets ≡ flatMap pointOctets all ++ drop (count * 9) lent =
+      w .there ∙ sym (append-assoc front left (drop (count * 9) lent)) ∙ ap (λ (l : List ℕ). l ++ drop (count * 9) lent) (sym (flat-append pointOctets (w .done) (w .left))) in
+      rw far (stands ∙ ap (λ (n : ℕ). flatMap pointOctets all ++ drop n lent) (sym size))
+
   -- one is beyond
-  walking-beyond : {octets′ : List ℕ} → Stopped order x r k octets octets′ → k < count → anyOf beyond (from order x (firstRestoring order) packed) ≡ true
-  unfolding anyOf
+  walking-beyond : {octets′ : List ℕ} → Stopped order x r k octets octets′ → k < count
+      → (anyOf beyond (from order x (firstRestoring order) packed) ≡ true) × (asFar (from order x r (w .left)) (w .left) ≡ w .left)
+  unfolding anyOf asFar
   walking-beyond m l = by-left (w .left) refl
     where
-      by-left : (left : List DecodedValue) → w .left ≡ left → anyOf beyond (from order x (firstRestoring order) packed) ≡ true
+      by-left : (left : List DecodedValue) → w .left ≡ left → (anyOf beyond (from order x (firstRestoring order) packed) ≡ true) × (asFar (from order x r (w .left)) (w .left) ≡ w .left)
       by-left [] e = absurd (omega (arith, w .left-is, ap length e))
       by-left (point ∷ more) e =
           let t = m .exact point front (behind more) (lies e) in
-          ap (anyOf beyond) (comes e (t .point) (t .next) (t .comes)) ∙ any-append beyond (w .done) (t .point ∷ from order x (t .next) more) (w .within) ∙ rw (t .past)
+          let here : asFar (t .point ∷ from order x (t .next) more) (point ∷ more) ≡ point ∷ more = rw (t .past) in (
+            ap (anyOf beyond) (comes e (t .point) (t .next) (t .comes)) ∙ any-append beyond (w .done) (t .point ∷ from order x (t .next) more) (w .within) ∙ rw (t .past),
+            rw e (ap (λ (points : List DecodedValue). asFar points (point ∷ more)) (t .comes more) ∙ here),
+          )
 
   -- none is
-  walking-end : count ≤ k → (from order x (firstRestoring order) packed ≡ w .done) × (octets ≡ flatMap pointOctets (w .done) over lent)
-  unfolding flatMap restored map
+  walking-end : count ≤ k → (from order x (firstRestoring order) packed ≡ w .done) × (asFar (from order x r (w .left)) (w .left) ≡ w .left)
+  unfolding restored map asFar
   walking-end l = by-left (w .left) refl
     where
-      by-left : (left : List DecodedValue) → w .left ≡ left → (from order x (firstRestoring order) packed ≡ w .done) × (octets ≡ flatMap pointOctets (w .done) over lent)
+      by-left : (left : List DecodedValue) → w .left ≡ left → (from order x (firstRestoring order) packed ≡ w .done) × (asFar (from order x r (w .left)) (w .left) ≡ w .left)
       by-left (point ∷ more) e = absurd (omega (arith, w .left-is, ap length e))
-      by-left [] e =
-          let size : count * 9 ≡ length front = omega (arith, size-points (w .done), w .done-is, w .left-is) in
-          (w .all ∙ ap (λ (l : List DecodedValue). w .done ++ from order x r l) e ∙ append-nil (w .done), rw e at (w .there) ∙ ap (λ (n : ℕ). front ++ drop n lent) size)
+      by-left [] e = (w .all ∙ ap (λ (l : List DecodedValue). w .done ++ from order x r l) e ∙ append-nil (w .done), rw e)
 
 -- ---- for whatever packed points the lent octets hold
 
@@ -128,23 +166,26 @@ module _ {order : ℕ} {x : Descriptors} {count : ℕ} {lent : List ℕ} {r : Re
   }
 
   pub passing-beyond : {octets′ : List ℕ} → Stopped order x r k octets octets′ → k < count
-      → (packed : List DecodedValue) → Holding packed count lent → Outcome (from order x (firstRestoring order) packed) count false lent octets′
-  passing-beyond m l packed h = record {
-    answer = sym (ap not (walking-beyond (p .exact packed h) m l));
-    there = λ e. absurd (true≢false (sym e));
-    long = ap length (m .same) ∙ p .long;
-    past = ap (drop (count * 9)) (m .same) ∙ past (p .exact packed h);
-  }
+      → (packed : List DecodedValue) → Holding packed count lent → Outcome (from order x (firstRestoring order) packed) packed false lent octets′
+  passing-beyond m l packed h =
+      let w = p .exact packed h in
+      let e = walking-beyond w m l in
+      record {
+        answer = sym (ap not (e .0));
+        there = m .same ∙ ended w (e .1);
+        long = ap length (m .same) ∙ p .long;
+        past = rw (h .long) (ap (drop (count * 9)) (m .same) ∙ past w);
+      }
 
-  pub passing-end : count ≤ k → (packed : List DecodedValue) → Holding packed count lent → Outcome (from order x (firstRestoring order) packed) count true lent octets
+  pub passing-end : count ≤ k → (packed : List DecodedValue) → Holding packed count lent → Outcome (from order x (firstRestoring order) packed) packed true lent octets
   passing-end l packed h =
       let w = p .exact packed h in
       let e = walking-end w l in
       record {
         answer = sym (ap not (ap (anyOf beyond) (e .0) ∙ w .within));
-        there = λ t. rw (e .0) (e .1);
+        there = ended w (e .1);
         long = p .long;
-        past = past w;
+        past = rw (h .long) (past w);
       }
 
 -- ---- once no first value is still to come
@@ -177,35 +218,29 @@ module _ {order : ℕ} {x : Descriptors} {count : ℕ} {r₀ : Restoring} {k₀ 
   }
 
   pub going-beyond : {octets′ : List ℕ} → Stopped order x r k octets octets′ → k < count → (lent : List ℕ) → Passing order x count lent r₀ k₀ octets₀
-      → (packed : List DecodedValue) → Holding packed count lent → Outcome (from order x (firstRestoring order) packed) count false lent octets′
+      → (packed : List DecodedValue) → Holding packed count lent → Outcome (from order x (firstRestoring order) packed) packed false lent octets′
   going-beyond m l lent p = passing-beyond (g .onward lent p) m l
 
   pub going-end : count ≤ k → (lent : List ℕ) → Passing order x count lent r₀ k₀ octets₀
-      → (packed : List DecodedValue) → Holding packed count lent → Outcome (from order x (firstRestoring order) packed) count true lent octets
+      → (packed : List DecodedValue) → Holding packed count lent → Outcome (from order x (firstRestoring order) packed) packed true lent octets
   going-end l lent p = passing-end (g .onward lent p) l
 
 -- ---- what the payload says
 
 module _ (d : Differencing) (payload : List ℕ) {x : Descriptors} (s : Described d payload x) {count : ℕ} {within : Bool} {before after : List ℕ} where
   whole : (order : ℕ) → order ≡ d .order
-      → ((packed : List DecodedValue) → Holding packed count before → Outcome (from order x (firstRestoring order) packed) count within before after)
+      → ((packed : List DecodedValue) → Holding packed count before → Outcome (from order x (firstRestoring order) packed) packed within before after)
       → (packed : List DecodedValue) → Holding packed count before → Restored d payload packed within before after
   whole order e o packed h =
       let same : from order x (firstRestoring order) packed ≡ restoredFrom d payload packed = rw (e, ← s .firsts, ← s .minimum, kept-zero) in
-      let r = o packed h in
-      record {
-        answer = r .answer ∙ ap (λ (q : List DecodedValue). not (anyOf beyond q)) same;
-        there = λ t. r .there t ∙ ap (λ (q : List DecodedValue). flatMap pointOctets q over before) same;
-        long = r .long;
-        past = rw (h .long) (r .past);
-      }
+      subst (λ (q : List DecodedValue). Outcome q packed within before after) same (o packed h)
 
   pub whole-first : d .order ≡ 1
-      → ((packed : List DecodedValue) → Holding packed count before → Outcome (from 1 x (firstRestoring 1) packed) count within before after)
+      → ((packed : List DecodedValue) → Holding packed count before → Outcome (from 1 x (firstRestoring 1) packed) packed within before after)
       → (packed : List DecodedValue) → Holding packed count before → Restored d payload packed within before after
   whole-first e o = whole 1 (sym e) o
 
   pub whole-second : Orderly d → (d .order ≡ 1 → ⊥)
-      → ((packed : List DecodedValue) → Holding packed count before → Outcome (from 2 x (firstRestoring 2) packed) count within before after)
+      → ((packed : List DecodedValue) → Holding packed count before → Outcome (from 2 x (firstRestoring 2) packed) packed within before after)
       → (packed : List DecodedValue) → Holding packed count before → Restored d payload packed within before after
   whole-second w n o = whole 2 (omega arith) o

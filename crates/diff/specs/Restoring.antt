@@ -1,6 +1,6 @@
 -- Template 5.3, point by point: what a turn owes to document 01's restored points. Assumes nothing.
 use mathlib.Core.Path.{_≡_}
-use mathlib.Core.Bool.{Bool, true, false, not}
+use mathlib.Core.Bool.{Bool, true, false, not, cond}
 use mathlib.Core.List.{List, [], _∷_, _++_, map, flatMap}
 use Prim.Native.Nat.{ℕ, suc, _+_, _-_, _*_, _^_, _≤_, _<_}
 use lib.ListN.{length, getD, take, drop}
@@ -160,8 +160,11 @@ settled previous before = record { left = 0; previous = previous; before = befor
 
 -- for some packed points: those before point k are restored, and none of them is beyond
 pub record Walking (order : ℕ) (x : Descriptors) (packed : List DecodedValue) (count : ℕ) (lent : List ℕ) (r : Restoring) (k : ℕ) (octets : List ℕ) : Type 0 where
+  pub was : List DecodedValue
   pub done : List DecodedValue
   pub left : List DecodedValue
+  pub was-is : packed ≡ was ++ left
+  pub was-long : length was ≡ length done
   pub done-is : length done ≡ k
   pub left-is : k + length left ≡ count
   pub small : (j : ℕ) → j < length left → Small (getD left j Missing1)
@@ -176,14 +179,20 @@ pub record Passing (order : ℕ) (x : Descriptors) (count : ℕ) (lent : List �
   pub steady : Steady order r
   pub exact : (packed : List DecodedValue) → Holding packed count lent → Walking order x packed count lent r k octets
 
--- of all points, `size` in number: whether their numbers are within 2^60 either way; and where they are, the points stand
--- in the place of the packed ones
-pub record Outcome (points : List DecodedValue) (size : ℕ) (within : Bool) (before after : List ℕ) : Type 0 where
+-- what stands there once restoring ends: the points as far as none is beyond, and from there on the packed ones
+unfoldable pub asFar : List DecodedValue → List DecodedValue → List DecodedValue
+asFar [] packed = packed
+asFar (point ∷ points) [] = []
+asFar (point ∷ points) (was ∷ packed) = cond (beyond point) (was ∷ packed) (point ∷ asFar points packed)
+
+-- of the points that come of packed ones: whether all are within 2^60 either way, and every octet that is left. The last two
+-- follow from the second, and are what a caller needs of it.
+pub record Outcome (points packed : List DecodedValue) (within : Bool) (before after : List ℕ) : Type 0 where
   pub answer : within ≡ not (anyOf beyond points)
-  pub there : within ≡ true → after ≡ flatMap pointOctets points over before
+  pub there : after ≡ flatMap pointOctets (asFar points packed) over before
   pub long : length after ≡ length before
-  pub past : drop (size * pointSize) after ≡ drop (size * pointSize) before
+  pub past : drop (length packed * pointSize) after ≡ drop (length packed * pointSize) before
 
 -- all points of document 01
 abbrev pub Restored : Differencing → List ℕ → List DecodedValue → Bool → List ℕ → List ℕ → Type 0
-Restored d payload packed = Outcome (restoredFrom d payload packed) (length packed)
+Restored d payload packed = Outcome (restoredFrom d payload packed) packed

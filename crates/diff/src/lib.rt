@@ -166,7 +166,7 @@ fn later_restored(
     count: usize,
 ) -> bool
     requires { ⌜ (0 < order) × (order ≤ 2) × Bounded descriptors × Steady order (settled previous before) × (start ≤ count) × (count * pointSize ≤ length (now points)) ⌝ }
-    ensures { λ r. ⌜ ((lent : List ℕ) → Passing order descriptors count lent (settled previous before) start (now (points .entry)) → (packed : List DecodedValue) → Holding packed count lent → Outcome (from order descriptors (firstRestoring order) packed) count r lent (now (points .exit))) ⌝ }
+    ensures { λ r. ⌜ ((lent : List ℕ) → Passing order descriptors count lent (settled previous before) start (now (points .entry)) → (packed : List DecodedValue) → Holding packed count lent → Outcome (from order descriptors (firstRestoring order) packed) packed r lent (now (points .exit))) ⌝ }
 {
     let mut restoring = Restoring {
         left: 0,
@@ -187,7 +187,7 @@ fn later_restored(
 // Restores all points, as far as none is beyond.
 fn all_restored(order: usize, descriptors: Descriptors, points: &mut [u8], count: usize) -> bool
     requires { ⌜ (0 < order) × (order ≤ 2) × Bounded descriptors × (count * pointSize ≤ length (now points)) ⌝ }
-    ensures { λ r. ⌜ ((packed : List DecodedValue) → Holding packed count (now (points .entry)) → Outcome (from order descriptors (firstRestoring order) packed) count r (now (points .entry)) (now (points .exit))) ⌝ }
+    ensures { λ r. ⌜ ((packed : List DecodedValue) → Holding packed count (now (points .entry)) → Outcome (from order descriptors (firstRestoring order) packed) packed r (now (points .entry)) (now (points .exit))) ⌝ }
 {
     let mut restoring = Restoring {
         left: order,
