@@ -111,48 +111,29 @@ fn unrolls_as_frozen(row: &[u8]) -> bool {
     check::same(&levels, &row[20..64])
 }
 
-// Template 5.2. A row has each number of the template in one octet.
-fn unpacks_as_frozen(row: &[u8]) -> bool {
+// Kind 4 is template 5.2, kind 5 template 5.3. A row has each number of the template in one octet.
+fn unpacked(row: &[u8], payload: &[u8], points: &mut [u8]) -> u32 {
     if row.len() < 64 {
-        return false;
+        return 0;
     }
-    let length = small(row[14]);
-    if 12 < length {
-        return false;
+    if row[0] == 4 {
+        return cleatmow::cleatmow_unpack_complex(
+            wide(row[1]),
+            row[2],
+            row[3],
+            row[4],
+            wide(row[5]),
+            row[6],
+            row[7],
+            wide(row[8]),
+            row[9],
+            wide(row[10]),
+            row[11],
+            payload,
+            points,
+        );
     }
-    let mut points = [0u8; 36];
-    let number = cleatmow::cleatmow_unpack_complex(
-        wide(row[1]),
-        row[2],
-        row[3],
-        row[4],
-        wide(row[5]),
-        row[6],
-        row[7],
-        wide(row[8]),
-        row[9],
-        wide(row[10]),
-        row[11],
-        &row[16..16 + length],
-        &mut points,
-    );
-    if (number as usize) != small(row[15]) {
-        return false;
-    }
-    check::same(&points, &row[28..64])
-}
-
-// Template 5.3.
-fn restores_as_frozen(row: &[u8]) -> bool {
-    if row.len() < 64 {
-        return false;
-    }
-    let length = small(row[14]);
-    if 12 < length {
-        return false;
-    }
-    let mut points = [0u8; 36];
-    let number = cleatmow::cleatmow_unpack_spatial(
+    cleatmow::cleatmow_unpack_spatial(
         wide(row[1]),
         row[2],
         row[3],
@@ -166,9 +147,21 @@ fn restores_as_frozen(row: &[u8]) -> bool {
         row[11],
         row[12],
         row[13],
-        &row[16..16 + length],
-        &mut points,
-    );
+        payload,
+        points,
+    )
+}
+
+fn unpacks_as_frozen(row: &[u8]) -> bool {
+    if row.len() < 64 {
+        return false;
+    }
+    let length = small(row[14]);
+    if 12 < length {
+        return false;
+    }
+    let mut points = [0u8; 36];
+    let number = unpacked(row, &row[16..16 + length], &mut points);
     if (number as usize) != small(row[15]) {
         return false;
     }
@@ -185,7 +178,7 @@ fn as_frozen(row: &[u8]) -> bool {
         2 => writes_as_frozen(row),
         3 => unrolls_as_frozen(row),
         4 => unpacks_as_frozen(row),
-        5 => restores_as_frozen(row),
+        5 => unpacks_as_frozen(row),
         _ => false,
     }
 }
