@@ -8,6 +8,7 @@ ghost use Rattle.format.specs.RunLength.{runLength};
 ghost use Rattle.cleatmow.specs.Calls.{called, givenTemplate, givenDifferencing};
 use format::Differencing;
 use format::Lengths;
+use format::Packed;
 use format::Refusal;
 use format::Template;
 use format::Unpacked;
@@ -165,5 +166,22 @@ pub extern "C" fn cleatmow_run_length(
     match run_length::run_length(bits, greatest, declared, payload, levels) {
         Unrolled::Levels(_) => 0,
         Unrolled::Refused(refusal) => number_of(refusal),
+    }
+}
+
+// Packing: the groups of a list, sixteen octets each, the payload, and the summary of 40 octets.
+#[no_mangle]
+pub extern "C" fn cleatmow_pack(
+    lookahead: u32,
+    numbers: &[u8],
+    groups: &mut [u8],
+    payload: &mut [u8],
+    summary: &mut [u8],
+) -> u32
+    ensures { λ r. ⌜ packCall r (now (groups .exit)) (now (payload .exit)) (now (summary .exit)) ≡ calledPack (pack lookahead (numbersIn (now (numbers .entry))) (now (groups .entry)) (now (payload .entry)) (now (summary .entry))) ⌝ }
+{
+    match encoder::pack(lookahead, numbers, groups, payload, summary) {
+        Packed::Payload(_, _) => 0,
+        Packed::Refused(refusal) => number_of(refusal),
     }
 }

@@ -1,11 +1,11 @@
 -- Document 01, "Port order and changes of shape": how points, levels, numbers and groups lie in lent octets, "all
 -- big-endian; spare octets short of a whole one are not used". Assumes nothing.
-use Prim.Native.Nat.{ℕ, suc, _-_, _/_, _%_, _^_}
+use Prim.Native.Nat.{ℕ, suc, _+_, _-_, _*_, _/_, _%_, _^_}
 use mathlib.Core.List.{List, [], _∷_, flatMap}
 use lib.ListN.{length}
 use lib.IntN.{ℤ, pos, negsuc}
 use Rattle.format.specs.Lists.{listed}
-use Rattle.format.specs.Bits.{fieldOf}
+use Rattle.format.specs.Bits.{numberAt, fieldOf}
 use Rattle.format.specs.declared.DecodedValue.{DecodedValue}
 use Rattle.format.specs.declared.DecodedValue.the-variants.{Normal, Missing1, Missing2}
 use Rattle.format.specs.declared.Group.{Group}
@@ -61,3 +61,15 @@ groupNumbers g = g .start ∷ g .length ∷ g .least ∷ g .width ∷ []
 
 abbrev pub groupSize : ℕ
 groupSize = 16
+
+-- group k of those in the octets, and the first n
+abbrev pub groupAt : List ℕ → ℕ → Group
+groupAt octets k = record {
+  start = numberAt octets (k * 4 * 32) 32;
+  length = numberAt octets ((k * 4 + 1) * 32) 32;
+  least = numberAt octets ((k * 4 + 2) * 32) 32;
+  width = numberAt octets ((k * 4 + 3) * 32) 32;
+}
+
+abbrev pub groupsIn : List ℕ → ℕ → List Group
+groupsIn octets n = listed n (groupAt octets)

@@ -1,6 +1,6 @@
 -- The count of binary digits. Assumes nothing.
 use mathlib.Core.Path.{_≡_, refl, ap, _∙_}
-use Prim.Native.Nat.{ℕ, zero, suc, _+_, _/_, _^_, _<_}
+use Prim.Native.Nat.{ℕ, zero, suc, _+_, _/_, _^_, _<_, _≤_}
 use native.Mathlib.Nat.{add-zero, add-suc, pow-suc}
 use native.Mathlib.Omega.{arith}
 use lib.Count.{leadingZeros}
@@ -34,3 +34,41 @@ unfolding leadingZeros digitsIn
 leading-digits zero x = refl
 leading-digits (suc n) zero = add-zero (suc n)
 leading-digits (suc n) (suc x) = add-suc (leadingZeros n (suc x / 2)) (digitsIn n (suc x / 2)) ∙ ap suc (leading-digits n (suc x / 2))
+
+-- ---- how many they are
+
+pub digits-le : (n x : ℕ) → digitsIn n x ≤ n
+unfolding digitsIn
+digits-le zero x = omega arith
+digits-le (suc n) zero = omega arith
+digits-le (suc n) (suc x) = omega (arith, digits-le n (suc x / 2))
+
+-- n digits hold what is below 2 to the n
+pub bits-le : (n x : ℕ) → x < 2 ^ n → bits x ≤ n
+bits-le n x h = rw (bits-in n x h) (digits-le n x)
+
+digits-mono : (n x y : ℕ) → x ≤ y → digitsIn n x ≤ digitsIn n y
+unfolding digitsIn
+digits-mono zero x y l = omega arith
+digits-mono (suc n) zero y l = omega arith
+digits-mono (suc n) (suc x) zero l = absurd (omega arith)
+digits-mono (suc n) (suc x) (suc y) l = omega (arith, digits-mono n (suc x / 2) (suc y / 2) (omega arith))
+
+pub bits-mono : (x y : ℕ) → x ≤ y → bits x ≤ bits y
+bits-mono x y l = rw (bits-in y x (omega (arith, below-power y)), bits-in y y (below-power y)) (digits-mono y x y l)
+
+digits-above : (n x : ℕ) → x < 2 ^ n → x < 2 ^ digitsIn n x
+unfolding digitsIn
+digits-above zero x h = h
+digits-above (suc n) zero h = omega arith
+digits-above (suc n) (suc x) h =
+    let e = pow-suc 2 (digitsIn n (suc x / 2)) in
+    omega (arith, digits-above n (suc x / 2) (half-below n (suc x) h))
+
+-- a number fits its own digits
+pub bits-above : (x : ℕ) → x < 2 ^ bits x
+bits-above x = rw (bits-in x x (below-power x)) (digits-above x x (below-power x))
+
+-- and those of any that is no less
+pub bits-within : (x y : ℕ) → x ≤ y → x < 2 ^ bits y
+bits-within x y l = omega (arith, bits-above y)

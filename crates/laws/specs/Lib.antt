@@ -4,6 +4,7 @@ pub mod Lists
 pub mod Bits
 pub mod Strings
 pub mod Digits
+pub mod Extremes
 pub mod Spans
 pub mod Written
 pub mod Fields

@@ -3,8 +3,8 @@ ghost use mathlib.Core.Path.{_≡_};
 ghost use Prim.Native.Nat.{_+_, _*_, _<_, _≤_, _^_};
 ghost use lib.ListN.{length, getD};
 ghost use lib.Seq.{sets};
-ghost use Rattle.format.specs.Bits.{numberAt, fieldOf};
-ghost use Rattle.format.specs.Layout.{bigEndian, inFours, levelSize, levelOctets, pointSize, pointOctets, markOf, heldBy, twosComplement, groupSize, groupNumbers};
+ghost use Rattle.format.specs.Bits.{numberAt};
+ghost use Rattle.format.specs.Layout.{bigEndian, inFours, levelSize, levelOctets, pointSize, pointOctets, markOf, heldBy, twosComplement, groupSize, groupNumbers, groupAt};
 use format::DecodedValue;
 use format::Group;
 use format::OctetPlace;
@@ -43,6 +43,20 @@ pub fn level_in(octets: &[u8], k: usize) -> u16
     stream::read_in_octet(octets, OctetPlace(k * LEVEL_SIZE), 0, 16) as u16
 }
 
+// Four octets as one number, the last of them first: read in this order they become one load of the machine.
+fn four(d: u8, c: u8, b: u8, a: u8) -> u32
+    ensures { λ r. ⌜ r ≡ ((a * 256 + b) * 256 + c) * 256 + d ⌝ }
+{
+    (d as u32) + (c as u32) * 256 + (b as u32) * 65536 + (a as u32) * 16777216
+}
+
+fn four_at(octets: &[u8], at: usize) -> u32
+    requires { ⌜ at + 4 ≤ length (now octets) ⌝ }
+    ensures { λ r. ⌜ r ≡ numberAt (now (octets .entry)) (at * 8) 32 ⌝ }
+{
+    four(octets[at + 3], octets[at + 2], octets[at + 1], octets[at])
+}
+
 // Number k of those that take four octets each.
 pub fn store_number(octets: &mut [u8], k: usize, number: u32)
     requires { ⌜ (k + 1) * 4 ≤ length (now octets) ⌝ }
@@ -55,7 +69,7 @@ pub fn number_in(octets: &[u8], k: usize) -> u32
     requires { ⌜ (k + 1) * 4 ≤ length (now octets) ⌝ }
     ensures { λ r. ⌜ r ≡ numberAt (now (octets .entry)) (k * 32) 32 ⌝ }
 {
-    stream::read_in_octet(octets, OctetPlace(k * 4), 0, 32)
+    four_at(octets, k * 4)
 }
 
 // "each of a group's four numbers take four octets": group k, four numbers from octet 16·k on.
@@ -72,7 +86,7 @@ pub fn store_group(octets: &mut [u8], k: usize, group: Group)
 
 pub fn group_in(octets: &[u8], k: usize) -> Group
     requires { ⌜ (k + 1) * groupSize ≤ length (now octets) ⌝ }
-    ensures { λ r. ⌜ groupNumbers r ≡ fieldOf (now (octets .entry)) (k * 128) 32 4 ⌝ }
+    ensures { λ r. ⌜ r ≡ groupAt (now (octets .entry)) k ⌝ }
 {
     let at = k * 4;
     Group {
@@ -142,18 +156,10 @@ pub fn mark_in(octets: &[u8], k: usize) -> u8
     octets[k * POINT_SIZE]
 }
 
-// Four octets as one number, the last of them first: read in this order they become one load of the machine.
-fn four(d: u8, c: u8, b: u8, a: u8) -> u32
-    ensures { λ r. ⌜ r ≡ ((a * 256 + b) * 256 + c) * 256 + d ⌝ }
-{
-    (d as u32) + (c as u32) * 256 + (b as u32) * 65536 + (a as u32) * 16777216
-}
-
 // The last four octets of point k's number: all of a packed number, which is below 2^32.
 pub fn packed_in(octets: &[u8], k: usize) -> u32
     requires { ⌜ (k + 1) * pointSize ≤ length (now octets) ⌝ }
     ensures { λ r. ⌜ r ≡ numberAt (now (octets .entry)) ((k * pointSize + 5) * 8) 32 ⌝ }
 {
-    let at = k * POINT_SIZE + 5;
-    four(octets[at + 3], octets[at + 2], octets[at + 1], octets[at])
+    four_at(octets, k * POINT_SIZE + 5)
 }

@@ -36,7 +36,7 @@ pub fn first_bit(place: OctetPlace) -> BitPlace
 }
 
 // A product that is far from wrapping.
-fn times(x: usize, width: usize) -> usize
+pub fn times(x: usize, width: usize) -> usize
     requires { ⌜ (x < 2 ^ 58) × (width ≤ 32) ⌝ }
     ensures { λ r. ⌜ (r ≡ x * width) × (r ≤ x * 32) ⌝ }
 {

@@ -1,0 +1,62 @@
+-- The rule, as the code follows it: windows by value, what the look-ahead is asked, what the next group is. Assumes nothing.
+use mathlib.Core.Path.{_≡_}
+use mathlib.Core.List.{List, [], _∷_, flatMap}
+use Prim.Native.Nat.{ℕ, _+_, _*_, _<_, _≤_, _^_, min, max}
+use lib.Dec.{ltb}
+use lib.ListN.{length, take, drop}
+use lib.Seq.{slice}
+use Rattle.format.specs.Lists.{greatest, least, _over_}
+use Rattle.format.specs.Refusals.{_gives_, first, Left, left}
+use Rattle.format.specs.Layout.{wholeOnes}
+use Rattle.format.specs.Grouping.{widthOf, groupsOf}
+use Rattle.format.specs.declared.Group.{Group}
+use Rattle.format.specs.declared.Grouped.{Grouped}
+use Rattle.format.specs.declared.Grouped.the-variants as grouped
+use Rattle.format.specs.declared.Refusal.the-variants.{Room}
+use Rattle.grouping.specs.declared.Window.{Window}
+use Rattle.grouping.specs.declared.Look.{Look}
+
+-- the least and the greatest of some numbers
+abbrev pub windowOf : List ℕ → Window
+windowOf numbers = record { least = least numbers; greatest = greatest numbers }
+
+-- and of one number more
+abbrev pub widenedBy : Window → ℕ → Window
+widenedBy w x = record { least = min (w .least) x; greatest = max (w .greatest) x }
+
+-- numbers that are all equal
+abbrev pub Level : List ℕ → Type 0
+Level numbers = least numbers ≡ greatest numbers
+
+-- the limits of packing, within which no sum of costs wraps
+pub record Limits (numbers : List ℕ) (k added : ℕ) : Type 0 where
+  pub few : length numbers ≤ 4194304
+  pub ahead : 0 < k
+  pub near : k ≤ 65535
+  pub added : added ≤ 65535
+
+-- the numbers from `end` to `level` are known to be equal
+pub record Known (numbers : List ℕ) (k end level : ℕ) : Type 0 where
+  pub there : end < length numbers
+  pub flat : Level (slice end level numbers)
+  pub within : level ≤ length numbers
+  pub near : level ≤ end + k
+
+-- the next group, from a place on: the first of the groups that the rule makes of the numbers there
+pub record Next (k added : ℕ) (numbers : List ℕ) (start : ℕ) (g : Group) : Type 0 where
+  pub first :
+      groupsOf widthOf added k (drop start numbers)
+      ≡ slice start (start + g .length) numbers ∷ groupsOf widthOf added k (drop (start + g .length) numbers)
+  pub some : 0 < g .length
+  pub within : start + g .length ≤ length numbers
+  pub start : g .start ≡ start
+  pub least : g .least ≡ least (slice start (start + g .length) numbers)
+  pub width : g .width ≡ widthOf (slice start (start + g .length) numbers)
+
+-- groups in a lent list that holds `size` numbers or octets a group. "10 for the group list leaves the first groups in all lent
+-- slots"
+abbrev pub groupsLent : (Group → List ℕ) → ℕ → List Group → List ℕ → Left Grouped
+groupsLent stored size groups lent =
+    first (λ r. left (grouped.Refused r) (flatMap stored (take (wholeOnes size lent) groups) over lent))
+    (ltb (wholeOnes size lent) (length groups) gives Room ∷ [])
+    (left (grouped.Groups (length groups)) (flatMap stored groups over lent))

@@ -1,0 +1,275 @@
+// Grouping, after `Groups` of the Rust's encoder: the groups of a list by document 01's rule.
+ghost use mathlib.Core.Path.{_≡_};
+ghost use mathlib.Core.Bool.{true, false};
+ghost use mathlib.Core.List.{_∷_, []};
+ghost use Prim.Native.Nat.{_+_, _*_, _-_, _<_, _≤_, _^_, min, max};
+ghost use lib.Dec.{ltb};
+ghost use lib.ListN.{length, getD, take, drop};
+ghost use lib.Seq.{slice, sets};
+ghost use Rattle.format.specs.Lists.{greatest};
+ghost use Rattle.format.specs.Layout.{numbersIn, groupNumbers};
+ghost use Rattle.format.specs.Refusals.{left};
+ghost use Rattle.format.specs.Grouping.{bits, widthOf, cost, groups01, recordsFrom, numberRefusals, groupNumbersOf};
+ghost use Rattle.laws.specs.First.{Gives, Clear};
+ghost use Rattle.grouping.specs.Rule.{windowOf, widenedBy, Level, Limits, Known, Next, groupsLent};
+use format::Group;
+use format::Grouped;
+use format::Refusal;
+
+// How many numbers a list has. "spare octets short of a whole one are not used"
+pub fn count_of(numbers: &[u8]) -> usize
+    ensures { λ r. ⌜ r ≡ length (numbersIn (now (numbers .entry))) ⌝ }
+{
+    numbers.len() / 4
+}
+
+// Number k of the list to pack. Every pass of packing gets its numbers here.
+pub fn number_at(numbers: &[u8], k: usize) -> u32
+    requires { ⌜ k < length (numbersIn (now numbers)) ⌝ }
+    ensures { λ r. ⌜ r ≡ getD (numbersIn (now (numbers .entry))) k 0 ⌝ }
+{
+    layout::number_in(numbers, k)
+}
+
+// The least and the greatest of some numbers. Every width of packing comes from one.
+pub struct Window {
+    pub least: u32,
+    pub greatest: u32,
+}
+
+pub fn window_of(number: u32) -> Window
+    ensures { λ r. ⌜ r ≡ windowOf (number ∷ []) ⌝ }
+{
+    Window {
+        least: number,
+        greatest: number,
+    }
+}
+
+fn lesser(a: u32, b: u32) -> u32
+    ensures { λ r. ⌜ r ≡ min a b ⌝ }
+{
+    if a < b { a } else { b }
+}
+
+fn greater(a: u32, b: u32) -> u32
+    ensures { λ r. ⌜ r ≡ max a b ⌝ }
+{
+    if a < b { b } else { a }
+}
+
+pub fn widened(window: Window, number: u32) -> Window
+    ensures { λ r. ⌜ r ≡ widenedBy window number ⌝ }
+{
+    Window {
+        least: lesser(window.least, number),
+        greatest: greater(window.greatest, number),
+    }
+}
+
+// "w = bits(max − min)"
+pub fn width(window: Window) -> usize
+    requires { ⌜ window .least ≤ window .greatest ⌝ }
+    ensures { λ r. ⌜ (r ≡ bits (window .greatest - window .least)) × (r ≤ 32) ⌝ }
+{
+    places::size(places::bits(window.greatest - window.least))
+}
+
+// Where the look-ahead from a place ends: "up to k numbers from that one on".
+fn reach_of(end: usize, lookahead: usize, count: usize) -> usize
+    requires { ⌜ (end < count) × (lookahead ≤ 65535) ⌝ }
+    ensures { λ r. ⌜ r ≡ end + min lookahead (count - end) ⌝ }
+{
+    let left = count - end;
+    if lookahead < left {
+        return end + lookahead;
+    }
+    count
+}
+
+// How far the numbers from `end` on are equal, as far as the look-ahead reaches; those before `level` are known to be.
+fn level_end(numbers: &[u8], end: usize, level: usize, reach: usize) -> usize
+    requires { ⌜ (end < reach) × (level ≤ reach) × (reach ≤ length (numbersIn (now numbers))) × Level (slice end level (numbersIn (now numbers))) ⌝ }
+    ensures { λ r. ⌜ (end < r) × (r ≤ reach) × Level (slice end r (numbersIn (now (numbers .entry)))) ⌝ }
+{
+    let first = number_at(numbers, end);
+    let mut i = if level <= end { end + 1 } else { level };
+    while i < reach {
+        if number_at(numbers, i) != first {
+            return i;
+        }
+        i += 1;
+    }
+    i
+}
+
+// Whether ending the group costs less, the look-ahead's cost being added to `keep`. A longer piece has no smaller range: what
+// is too dear already stays so, and the look-ahead stops. The numbers from `end` to `level` are equal.
+fn is_less(
+    numbers: &[u8],
+    end: usize,
+    level: usize,
+    reach: usize,
+    keep: usize,
+    extend: usize,
+) -> bool
+    requires { ⌜ (end < level) × (level ≤ reach) × (reach ≤ length (numbersIn (now numbers))) × (reach ≤ end + 65535) × Level (slice end level (numbersIn (now numbers))) ⌝ }
+    requires { ⌜ (keep < extend) × (extend < 2 ^ 32) ⌝ }
+    ensures { λ r. ⌜ r ≡ ltb (keep + cost widthOf 0 (slice end reach (numbersIn (now (numbers .entry))))) extend ⌝ }
+{
+    let count = reach - end;
+    let mut window = window_of(number_at(numbers, end));
+    let mut i = level;
+    while i < reach {
+        window = widened(window, number_at(numbers, i));
+        if extend <= keep + places::times(count, width(window)) {
+            return false;
+        }
+        i += 1;
+    }
+    true
+}
+
+// What looking ahead comes to: whether the group ends, and how far the next numbers are known to be equal.
+pub struct Look {
+    pub ends: bool,
+    pub level: usize,
+}
+
+// `keep` is the cost of the group as it is and of ending it, `extend` its cost with the next number taken in. Where taking it
+// in costs no more at all, nothing is looked at.
+fn look_ahead(
+    numbers: &[u8],
+    lookahead: usize,
+    end: usize,
+    level: usize,
+    keep: usize,
+    extend: usize,
+) -> Look
+    requires { ⌜ Limits (numbersIn (now numbers)) lookahead 0 × Known (numbersIn (now numbers)) lookahead end level × (extend < 2 ^ 32) ⌝ }
+    ensures { λ r. ⌜ (r .ends ≡ ltb (keep + cost widthOf 0 (take lookahead (drop end (numbersIn (now (numbers .entry)))))) extend) × Known (numbersIn (now (numbers .entry))) lookahead end (r .level) ⌝ }
+{
+    if extend <= keep {
+        return Look { ends: false, level };
+    }
+    let reach = reach_of(end, lookahead, count_of(numbers));
+    let known = level_end(numbers, end, level, reach);
+    Look {
+        ends: is_less(numbers, end, known, reach, keep, extend),
+        level: known,
+    }
+}
+
+fn group_of(start: usize, end: usize, window: Window) -> Group
+    requires { ⌜ (start ≤ end) × (end < 2 ^ 32) × (window .least ≤ window .greatest) ⌝ }
+    ensures { λ r. ⌜ r ≡ record { start = start; length = end - start; least = window .least; width = bits (window .greatest - window .least) } ⌝ }
+{
+    Group {
+        start: start as u32,
+        length: (end - start) as u32,
+        least: window.least,
+        width: places::bits(window.greatest - window.least),
+    }
+}
+
+// "If len·w + that cost is less than (len + 1)·w', the group ends before it; otherwise it is taken in.": the group that starts
+// at a place. `added` is what ending a group costs besides; document 01's rule adds nothing.
+pub fn next_group(numbers: &[u8], lookahead: usize, added: usize, start: usize) -> Group
+    requires { ⌜ Limits (numbersIn (now numbers)) lookahead added × (start < length (numbersIn (now numbers))) ⌝ }
+    ensures { λ r. ⌜ Next lookahead added (numbersIn (now (numbers .entry))) start r ⌝ }
+{
+    let count = count_of(numbers);
+    let mut window = window_of(number_at(numbers, start));
+    let mut end = start + 1;
+    let mut level = end;
+    while end < count {
+        let wider = widened(window, number_at(numbers, end));
+        let keep = places::times(end - start, width(window)) + added;
+        let extend = places::times(end - start + 1, width(wider));
+        let look = look_ahead(numbers, lookahead, end, level, keep, extend);
+        if look.ends {
+            return group_of(start, end, window);
+        }
+        level = look.level;
+        window = wider;
+        end += 1;
+    }
+    group_of(start, end, window)
+}
+
+// The greatest number of a list; 0 of none.
+pub fn greatest_of(numbers: &[u8]) -> u32
+    ensures { λ r. ⌜ r ≡ greatest (numbersIn (now (numbers .entry))) ⌝ }
+{
+    let count = count_of(numbers);
+    let mut r = 0u32;
+    let mut k = 0usize;
+    while k < count {
+        r = greater(r, number_at(numbers, k));
+        k += 1;
+    }
+    r
+}
+
+// "packing: list empty or above 4,194,304 numbers, a number above 2,147,483,647, lookahead outside 1 to 65,535"
+pub fn is_refused(numbers: &[u8], greatest: u32, lookahead: u32) -> bool
+    requires { ⌜ greatest ≡ greatest (numbersIn (now numbers)) ⌝ }
+    ensures { λ r. ⌜ (r ≡ true → Gives 13 (numberRefusals lookahead (numbersIn (now (numbers .entry))))) × (r ≡ false → Clear (numberRefusals lookahead (numbersIn (now (numbers .entry))))) ⌝ }
+{
+    let count = count_of(numbers);
+    if count == 0 {
+        return true;
+    }
+    if 4194304 < count {
+        return true;
+    }
+    if 2147483647 < greatest {
+        return true;
+    }
+    if lookahead == 0 {
+        return true;
+    }
+    65535 < lookahead
+}
+
+// Group k, "four numbers each: start, length, least number, width".
+fn store_slot(slots: &mut [u32], k: usize, group: Group)
+    requires { ⌜ (k + 1) * 4 ≤ length (now slots) ⌝ }
+    ensures { λ _. ⌜ now (slots .exit) ≡ sets (now (slots .entry)) (k * 4) (groupNumbers group) ⌝ }
+{
+    let at = k * 4;
+    slots[at] = group.start;
+    slots[at + 1] = group.length;
+    slots[at + 2] = group.least;
+    slots[at + 3] = group.width;
+}
+
+fn fill_slots(numbers: &[u8], lookahead: usize, slots: &mut [u32]) -> Grouped
+    requires { ⌜ Limits (numbersIn (now numbers)) lookahead 0 ⌝ }
+    ensures { λ r. ⌜ left r (now (slots .exit)) ≡ groupsLent groupNumbers 4 (recordsFrom 0 (groups01 lookahead (numbersIn (now (numbers .entry))))) (now (slots .entry)) ⌝ }
+{
+    let count = count_of(numbers);
+    let room = slots.len() / 4;
+    let mut start = 0usize;
+    let mut k = 0usize;
+    while start < count {
+        if room <= k {
+            return Grouped::Refused(Refusal::Room);
+        }
+        let group = next_group(numbers, lookahead, 0, start);
+        store_slot(slots, k, group);
+        start += places::size(group.length);
+        k += 1;
+    }
+    Grouped::Groups(k as u32)
+}
+
+// The groups of a list in lent slots, four numbers a group.
+pub fn groups_of(numbers: &[u8], lookahead: u32, slots: &mut [u32]) -> Grouped
+    ensures { λ r. ⌜ left r (now (slots .exit)) ≡ groupNumbersOf lookahead (numbersIn (now (numbers .entry))) (now (slots .entry)) ⌝ }
+{
+    if is_refused(numbers, greatest_of(numbers), lookahead) {
+        return Grouped::Refused(Refusal::Numbers);
+    }
+    fill_slots(numbers, places::size(lookahead), slots)
+}
