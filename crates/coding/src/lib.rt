@@ -8,41 +8,28 @@ ghost use Rattle.format.specs.Lists.{least};
 ghost use Rattle.format.specs.Layout.{groupSize, groupsIn};
 ghost use Rattle.format.specs.Grouping.{bits};
 ghost use Rattle.format.specs.Packing.{gcd, gcdFrom, divisorUpTo, incrementOf, widthCoding, lengthCoding};
-ghost use Rattle.grouping.specs.Rule.{windowOf};
-ghost use Rattle.coding.specs.declared.Field.the-variants.{Widths, Lengths};
-ghost use Rattle.coding.specs.Codes.{numberOf, codedTemplate, Coded};
-use format::Group;
+ghost use Rattle.numbers.specs.Windows.{windowOf};
+ghost use Rattle.numbers.specs.declared.Field.the-variants.{Widths, Lengths};
+ghost use Rattle.numbers.specs.Records.{numberOf, codedTemplate};
+ghost use Rattle.coding.specs.Codes.{Coded};
 use format::Lengths;
 use format::Template;
 use format::Widths;
-use grouping::Window;
-
-// The fields of a payload that code a number of each group: its least number, its width, its length.
-pub enum Field {
-    References,
-    Widths,
-    Lengths,
-}
-
-pub fn number_of(group: Group, field: Field) -> u32
-    ensures { λ r. ⌜ r ≡ numberOf field group ⌝ }
-{
-    match field {
-        Field::References => group.least,
-        Field::Widths => group.width,
-        Field::Lengths => group.length,
-    }
-}
+use numbers::Field;
+use numbers::Window;
 
 // The least and the greatest of one number of the first groups.
 fn window_over(field: Field, groups: &[u8], count: usize) -> Window
     requires { ⌜ (0 < count) × (count * groupSize ≤ length (now groups)) ⌝ }
     ensures { λ r. ⌜ r ≡ windowOf (map (numberOf field) (groupsIn (now (groups .entry)) count)) ⌝ }
 {
-    let mut window = grouping::window_of(number_of(layout::group_in(groups, 0), field));
+    let mut window = numbers::window_of(numbers::number_of(layout::group_in(groups, 0), field));
     let mut k = 1usize;
     while k < count {
-        window = grouping::widened(window, number_of(layout::group_in(groups, k), field));
+        window = numbers::widened(
+            window,
+            numbers::number_of(layout::group_in(groups, k), field),
+        );
         k += 1;
     }
     window
@@ -101,7 +88,7 @@ fn widths_of(groups: &[u8], count: usize) -> Widths
     let widths = window_over(Field::Widths, groups, count);
     Widths {
         reference: widths.least as u8,
-        bits: grouping::width(widths) as u8,
+        bits: numbers::width(widths) as u8,
     }
 }
 

@@ -1,7 +1,7 @@
 -- The rule, as the code follows it: windows by value, what the look-ahead is asked, what the next group is. Assumes nothing.
 use mathlib.Core.Path.{_≡_}
 use mathlib.Core.List.{List, [], _∷_, flatMap}
-use Prim.Native.Nat.{ℕ, _+_, _*_, _<_, _≤_, _^_, min, max}
+use Prim.Native.Nat.{ℕ, _+_, _*_, _<_, _≤_}
 use lib.Dec.{ltb}
 use lib.ListN.{length, take, drop}
 use lib.Seq.{slice}
@@ -13,27 +13,17 @@ use Rattle.format.specs.declared.Group.{Group}
 use Rattle.format.specs.declared.Grouped.{Grouped}
 use Rattle.format.specs.declared.Grouped.the-variants as grouped
 use Rattle.format.specs.declared.Refusal.the-variants.{Room}
-use Rattle.grouping.specs.declared.Window.{Window}
-use Rattle.grouping.specs.declared.Look.{Look}
-
--- the least and the greatest of some numbers
-abbrev pub windowOf : List ℕ → Window
-windowOf numbers = record { least = least numbers; greatest = greatest numbers }
-
--- and of one number more
-abbrev pub widenedBy : Window → ℕ → Window
-widenedBy w x = record { least = min (w .least) x; greatest = max (w .greatest) x }
 
 -- numbers that are all equal
 abbrev pub Level : List ℕ → Type 0
 Level numbers = least numbers ≡ greatest numbers
 
 -- the limits of packing, within which no sum of costs wraps
-pub record Limits (numbers : List ℕ) (k added : ℕ) : Type 0 where
+pub record Limits (numbers : List ℕ) (k a : ℕ) : Type 0 where
   pub few : length numbers ≤ 4194304
   pub ahead : 0 < k
   pub near : k ≤ 65535
-  pub added : added ≤ 65535
+  pub added : a ≤ 65535
 
 -- the numbers from `end` to `level` are known to be equal
 pub record Known (numbers : List ℕ) (k end level : ℕ) : Type 0 where
@@ -43,15 +33,15 @@ pub record Known (numbers : List ℕ) (k end level : ℕ) : Type 0 where
   pub near : level ≤ end + k
 
 -- the next group, from a place on: the first of the groups that the rule makes of the numbers there
-pub record Next (k added : ℕ) (numbers : List ℕ) (start : ℕ) (g : Group) : Type 0 where
+pub record Next (k added : ℕ) (numbers : List ℕ) (at : ℕ) (g : Group) : Type 0 where
   pub first :
-      groupsOf widthOf added k (drop start numbers)
-      ≡ slice start (start + g .length) numbers ∷ groupsOf widthOf added k (drop (start + g .length) numbers)
+      groupsOf widthOf added k (drop at numbers)
+      ≡ slice at (at + g .length) numbers ∷ groupsOf widthOf added k (drop (at + g .length) numbers)
   pub some : 0 < g .length
-  pub within : start + g .length ≤ length numbers
-  pub start : g .start ≡ start
-  pub least : g .least ≡ least (slice start (start + g .length) numbers)
-  pub width : g .width ≡ widthOf (slice start (start + g .length) numbers)
+  pub within : at + g .length ≤ length numbers
+  pub start : g .start ≡ at
+  pub least : g .least ≡ least (slice at (at + g .length) numbers)
+  pub width : g .width ≡ widthOf (slice at (at + g .length) numbers)
 
 -- groups in a lent list that holds `size` numbers or octets a group. "10 for the group list leaves the first groups in all lent
 -- slots"

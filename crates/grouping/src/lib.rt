@@ -1,7 +1,6 @@
 // Grouping, after `Groups` of the Rust's encoder: the groups of a list by document 01's rule.
 ghost use mathlib.Core.Path.{_≡_};
 ghost use mathlib.Core.Bool.{true, false};
-ghost use mathlib.Core.List.{_∷_, []};
 ghost use Prim.Native.Nat.{_+_, _*_, _-_, _<_, _≤_, _^_, min, max};
 ghost use lib.Dec.{ltb};
 ghost use lib.ListN.{length, getD, take, drop};
@@ -11,69 +10,10 @@ ghost use Rattle.format.specs.Layout.{numbersIn, groupNumbers};
 ghost use Rattle.format.specs.Refusals.{left};
 ghost use Rattle.format.specs.Grouping.{bits, widthOf, cost, groups01, recordsFrom, numberRefusals, groupNumbersOf};
 ghost use Rattle.laws.specs.First.{Gives, Clear};
-ghost use Rattle.grouping.specs.Rule.{windowOf, widenedBy, Level, Limits, Known, Next, groupsLent};
+ghost use Rattle.grouping.specs.Rule.{Level, Limits, Known, Next, groupsLent};
 use format::Group;
 use format::Grouped;
 use format::Refusal;
-
-// How many numbers a list has. "spare octets short of a whole one are not used"
-pub fn count_of(numbers: &[u8]) -> usize
-    ensures { λ r. ⌜ r ≡ length (numbersIn (now (numbers .entry))) ⌝ }
-{
-    numbers.len() / 4
-}
-
-// Number k of the list to pack. Every pass of packing gets its numbers here.
-pub fn number_at(numbers: &[u8], k: usize) -> u32
-    requires { ⌜ k < length (numbersIn (now numbers)) ⌝ }
-    ensures { λ r. ⌜ r ≡ getD (numbersIn (now (numbers .entry))) k 0 ⌝ }
-{
-    layout::number_in(numbers, k)
-}
-
-// The least and the greatest of some numbers. Every width of packing comes from one.
-pub struct Window {
-    pub least: u32,
-    pub greatest: u32,
-}
-
-pub fn window_of(number: u32) -> Window
-    ensures { λ r. ⌜ r ≡ windowOf (number ∷ []) ⌝ }
-{
-    Window {
-        least: number,
-        greatest: number,
-    }
-}
-
-fn lesser(a: u32, b: u32) -> u32
-    ensures { λ r. ⌜ r ≡ min a b ⌝ }
-{
-    if a < b { a } else { b }
-}
-
-fn greater(a: u32, b: u32) -> u32
-    ensures { λ r. ⌜ r ≡ max a b ⌝ }
-{
-    if a < b { b } else { a }
-}
-
-pub fn widened(window: Window, number: u32) -> Window
-    ensures { λ r. ⌜ r ≡ widenedBy window number ⌝ }
-{
-    Window {
-        least: lesser(window.least, number),
-        greatest: greater(window.greatest, number),
-    }
-}
-
-// "w = bits(max − min)"
-pub fn width(window: Window) -> usize
-    requires { ⌜ window .least ≤ window .greatest ⌝ }
-    ensures { λ r. ⌜ (r ≡ bits (window .greatest - window .least)) × (r ≤ 32) ⌝ }
-{
-    places::size(places::bits(window.greatest - window.least))
-}
 
 // Where the look-ahead from a place ends: "up to k numbers from that one on".
 fn reach_of(end: usize, lookahead: usize, count: usize) -> usize
@@ -92,10 +32,10 @@ fn level_end(numbers: &[u8], end: usize, level: usize, reach: usize) -> usize
     requires { ⌜ (end < reach) × (level ≤ reach) × (reach ≤ length (numbersIn (now numbers))) × Level (slice end level (numbersIn (now numbers))) ⌝ }
     ensures { λ r. ⌜ (end < r) × (r ≤ reach) × Level (slice end r (numbersIn (now (numbers .entry)))) ⌝ }
 {
-    let first = number_at(numbers, end);
+    let first = numbers::number_at(numbers, end);
     let mut i = if level <= end { end + 1 } else { level };
     while i < reach {
-        if number_at(numbers, i) != first {
+        if numbers::number_at(numbers, i) != first {
             return i;
         }
         i += 1;
@@ -118,11 +58,11 @@ fn is_less(
     ensures { λ r. ⌜ r ≡ ltb (keep + cost widthOf 0 (slice end reach (numbersIn (now (numbers .entry))))) extend ⌝ }
 {
     let count = reach - end;
-    let mut window = window_of(number_at(numbers, end));
+    let mut window = numbers::window_of(numbers::number_at(numbers, end));
     let mut i = level;
     while i < reach {
-        window = widened(window, number_at(numbers, i));
-        if extend <= keep + places::times(count, width(window)) {
+        window = numbers::widened(window, numbers::number_at(numbers, i));
+        if extend <= keep + places::times(count, numbers::width(window)) {
             return false;
         }
         i += 1;
@@ -152,7 +92,7 @@ fn look_ahead(
     if extend <= keep {
         return Look { ends: false, level };
     }
-    let reach = reach_of(end, lookahead, count_of(numbers));
+    let reach = reach_of(end, lookahead, numbers::count_of(numbers));
     let known = level_end(numbers, end, level, reach);
     Look {
         ends: is_less(numbers, end, known, reach, keep, extend),
@@ -160,15 +100,15 @@ fn look_ahead(
     }
 }
 
-fn group_of(start: usize, end: usize, window: Window) -> Group
-    requires { ⌜ (start ≤ end) × (end < 2 ^ 32) × (window .least ≤ window .greatest) ⌝ }
-    ensures { λ r. ⌜ r ≡ record { start = start; length = end - start; least = window .least; width = bits (window .greatest - window .least) } ⌝ }
+fn group_of(start: usize, end: usize, least: u32, width: usize) -> Group
+    requires { ⌜ (start ≤ end) × (end < 2 ^ 32) × (width ≤ 32) ⌝ }
+    ensures { λ r. ⌜ r ≡ record { start = start; length = end - start; least = least; width = width } ⌝ }
 {
     Group {
         start: start as u32,
         length: (end - start) as u32,
-        least: window.least,
-        width: places::bits(window.greatest - window.least),
+        least,
+        width: width as u32,
     }
 }
 
@@ -178,52 +118,41 @@ pub fn next_group(numbers: &[u8], lookahead: usize, added: usize, start: usize) 
     requires { ⌜ Limits (numbersIn (now numbers)) lookahead added × (start < length (numbersIn (now numbers))) ⌝ }
     ensures { λ r. ⌜ Next lookahead added (numbersIn (now (numbers .entry))) start r ⌝ }
 {
-    let count = count_of(numbers);
-    let mut window = window_of(number_at(numbers, start));
+    let count = numbers::count_of(numbers);
+    let mut window = numbers::window_of(numbers::number_at(numbers, start));
+    let mut wide = 0usize;
     let mut end = start + 1;
     let mut level = end;
     while end < count {
-        let wider = widened(window, number_at(numbers, end));
-        let keep = places::times(end - start, width(window)) + added;
-        let extend = places::times(end - start + 1, width(wider));
+        let wider = numbers::widened(window, numbers::number_at(numbers, end));
+        let grown = numbers::width(wider);
+        let keep = places::times(end - start, wide) + added;
+        let extend = places::times(end - start + 1, grown);
         let look = look_ahead(numbers, lookahead, end, level, keep, extend);
         if look.ends {
-            return group_of(start, end, window);
+            return group_of(start, end, window.least, wide);
         }
         level = look.level;
         window = wider;
+        wide = grown;
         end += 1;
     }
-    group_of(start, end, window)
-}
-
-// The greatest number of a list; 0 of none.
-pub fn greatest_of(numbers: &[u8]) -> u32
-    ensures { λ r. ⌜ r ≡ greatest (numbersIn (now (numbers .entry))) ⌝ }
-{
-    let count = count_of(numbers);
-    let mut r = 0u32;
-    let mut k = 0usize;
-    while k < count {
-        r = greater(r, number_at(numbers, k));
-        k += 1;
-    }
-    r
+    group_of(start, end, window.least, wide)
 }
 
 // "packing: list empty or above 4,194,304 numbers, a number above 2,147,483,647, lookahead outside 1 to 65,535"
-pub fn is_refused(numbers: &[u8], greatest: u32, lookahead: u32) -> bool
-    requires { ⌜ greatest ≡ greatest (numbersIn (now numbers)) ⌝ }
+pub fn is_refused(numbers: &[u8], top: u32, lookahead: u32) -> bool
+    requires { ⌜ top ≡ greatest (numbersIn (now numbers)) ⌝ }
     ensures { λ r. ⌜ (r ≡ true → Gives 13 (numberRefusals lookahead (numbersIn (now (numbers .entry))))) × (r ≡ false → Clear (numberRefusals lookahead (numbersIn (now (numbers .entry))))) ⌝ }
 {
-    let count = count_of(numbers);
+    let count = numbers::count_of(numbers);
     if count == 0 {
         return true;
     }
     if 4194304 < count {
         return true;
     }
-    if 2147483647 < greatest {
+    if 2147483647 < top {
         return true;
     }
     if lookahead == 0 {
@@ -248,7 +177,7 @@ fn fill_slots(numbers: &[u8], lookahead: usize, slots: &mut [u32]) -> Grouped
     requires { ⌜ Limits (numbersIn (now numbers)) lookahead 0 ⌝ }
     ensures { λ r. ⌜ left r (now (slots .exit)) ≡ groupsLent groupNumbers 4 (recordsFrom 0 (groups01 lookahead (numbersIn (now (numbers .entry))))) (now (slots .entry)) ⌝ }
 {
-    let count = count_of(numbers);
+    let count = numbers::count_of(numbers);
     let room = slots.len() / 4;
     let mut start = 0usize;
     let mut k = 0usize;
@@ -268,7 +197,7 @@ fn fill_slots(numbers: &[u8], lookahead: usize, slots: &mut [u32]) -> Grouped
 pub fn groups_of(numbers: &[u8], lookahead: u32, slots: &mut [u32]) -> Grouped
     ensures { λ r. ⌜ left r (now (slots .exit)) ≡ groupNumbersOf lookahead (numbersIn (now (numbers .entry))) (now (slots .entry)) ⌝ }
 {
-    if is_refused(numbers, greatest_of(numbers), lookahead) {
+    if is_refused(numbers, numbers::greatest_of(numbers), lookahead) {
         return Grouped::Refused(Refusal::Numbers);
     }
     fill_slots(numbers, places::size(lookahead), slots)

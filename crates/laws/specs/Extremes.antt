@@ -1,10 +1,12 @@
 -- The greatest and the least of some numbers, and how wide they make a group. Assumes nothing.
 use mathlib.Core.Path.{_≡_, refl}
 use mathlib.Core.List.{List, [], _∷_, _++_}
-use Prim.Native.Nat.{ℕ, zero, suc, _-_, _^_, _≤_, _<_, min, max}
+use Prim.Native.Nat.{ℕ, zero, suc, _+_, _-_, _^_, _≤_, _<_, min, max}
 use native.Mathlib.Nat.{not-suc-le-zero}
+use native.Mathlib.Numerals.{add-one}
 use native.Mathlib.Omega.{arith}
-use lib.ListN.{length, getD}
+use lib.ListN.{length, getD, take}
+use lib.Seq.{take-suc, length-take-le}
 use Rattle.format.specs.Lists.{greatest, least}
 use Rattle.format.specs.Grouping.{widthOf}
 use Rattle.laws.specs.Digits.{bits-mono, bits-within}
@@ -68,3 +70,11 @@ width-more xs ys l =
 pub fits-width : (xs : List ℕ) (k : ℕ) → k < length xs → getD xs k 0 - least xs < 2 ^ widthOf xs
 unfolding widthOf
 fits-width xs k l = bits-within (getD xs k 0 - least xs) (greatest xs - least xs) (omega (arith, greatest-upper xs k l))
+
+-- ---- a turn of a loop over some numbers
+
+pub greatest-next : (xs : List ℕ) (k : ℕ) → k < length xs → greatest (take (k + 1) xs) ≡ max (greatest (take k xs)) (getD xs k 0)
+greatest-next xs k l = rw (add-one k, take-suc xs k 0 l) (greatest-snoc (take k xs) (getD xs k 0))
+
+pub least-next : (xs : List ℕ) (k : ℕ) → 0 < k → k < length xs → least (take (k + 1) xs) ≡ min (least (take k xs)) (getD xs k 0)
+least-next xs k p l = rw (add-one k, take-suc xs k 0 l) (least-snoc (take k xs) (getD xs k 0) (omega (arith, length-take-le k xs (omega arith))))

@@ -1,5 +1,4 @@
 -- `layout::group_in` meets its contract. Assumes nothing.
-use Rattle.layout.proofs.Fours.{four-in}
 use borrow.Author.Needs.{needs}
 use Rattle.layout.proofs.group_in.Statement.{statement}
 use Rattle.layout.proofs.group_in.Tie as tie
@@ -30,7 +29,11 @@ number-in-requires-4 c κs = search needs
 
 returns : tie.Need-returns
 returns c =
-    four-in _ _ (c .before .before .before .number-in .ensures) (c .before .before .number-in2 .ensures) (c .before .number-in3 .ensures) (c .number-in4 .ensures)
+    let e₁ = c .before .before .before .number-in .ensures in
+    let e₂ = c .before .before .number-in2 .ensures in
+    let e₃ = c .before .number-in3 .ensures in
+    let e₄ = c .number-in4 .ensures in
+    cc
 
 pub group-in-spec : {M : Type 1} → statement M
 group-in-spec =

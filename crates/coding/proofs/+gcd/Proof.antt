@@ -1,0 +1,43 @@
+-- `coding::+gcd` meets its contract. Assumes nothing.
+use {ℕ, _<_}
+use borrow.Fn.Kinds.{In}
+use borrow.Fn.PlainCycle.{Measures, is, falls, and}
+use Rattle.coding.proofs.gcd.Reads as gcd
+use Rattle.coding.proofs.gcd.Kinds as gcd-kinds
+use Rattle.coding.proofs.+gcd.Lts-gcd as gcd-lts
+use Rattle.coding.proofs.+gcd.{statement}
+use Rattle.coding.proofs.+gcd.Tie.{close}
+
+abbrev μ-gcd : Measures 0 gcd-kinds.ps ℕ
+μ-gcd κs a = ?
+
+abbrev gcd-at : ℕ → In 0 gcd-kinds.ps
+gcd-at t = and 0 gcd-kinds.ps (is 0 gcd-kinds.ps μ-gcd t) gcd.Pre
+
+abbrev gcd-below : ℕ → In 0 gcd-kinds.ps
+gcd-below t = and 0 gcd-kinds.ps (falls 0 gcd-kinds.ps _<_ μ-gcd t) gcd.Pre
+
+gcd-rem-gcd : (t : ℕ) → gcd-lts.Need-rem-gcd (gcd-below t, gcd.Post) (gcd-at t) gcd.Post
+gcd-rem-gcd t c = ?
+
+gcd-gcd-requires : (t : ℕ) → gcd-lts.Need-gcd-requires (gcd-below t, gcd.Post) (gcd-at t) gcd.Post
+gcd-gcd-requires t c κs = ?
+
+gcd-returns : (t : ℕ) → gcd-lts.Need-returns (gcd-below t, gcd.Post) (gcd-at t) gcd.Post
+gcd-returns t c = ?
+
+gcd-returns-2 : (t : ℕ) → gcd-lts.Need-returns-2 (gcd-below t, gcd.Post) (gcd-at t) gcd.Post
+gcd-returns-2 t c = ?
+
+pub +gcd-spec : {M : Type 1} → statement M
++gcd-spec =
+    close
+    μ-gcd
+    λ t. gcd-lts.spec
+    (gcd-below t, gcd.Post)
+    (gcd-at t)
+    gcd.Post
+    (gcd-rem-gcd t)
+    (gcd-gcd-requires t)
+    (gcd-returns t)
+    (gcd-returns-2 t)

@@ -1,0 +1,65 @@
+-- `grouping::store_slot` meets its contract. Assumes nothing.
+use borrow.Author.Needs.{needs}
+use Rattle.grouping.proofs.store_slot.Statement.{statement}
+use Rattle.grouping.proofs.store_slot.Tie as tie
+
+mul-at : tie.Need-mul-at
+mul-at c = search needs
+
+mul-slots : tie.Need-mul-slots
+mul-slots c = search needs
+
+slice-write-slots : tie.Need-slice-write-slots
+slice-write-slots c = search needs
+
+add-slots : tie.Need-add-slots
+add-slots c = search needs
+
+mul-slots-2 : tie.Need-mul-slots-2
+mul-slots-2 c = search needs
+
+slice-write-slots-2 : tie.Need-slice-write-slots-2
+slice-write-slots-2 c = ?
+
+add-slots-2 : tie.Need-add-slots-2
+add-slots-2 c = search needs
+
+mul-slots-3 : tie.Need-mul-slots-3
+mul-slots-3 c = search needs
+
+slice-write-slots-3 : tie.Need-slice-write-slots-3
+slice-write-slots-3 c = ?
+
+add-slots-3 : tie.Need-add-slots-3
+add-slots-3 c = search needs
+
+mul-slots-4 : tie.Need-mul-slots-4
+mul-slots-4 c = search needs
+
+slice-write-slots-4 : tie.Need-slice-write-slots-4
+slice-write-slots-4 c = ?
+
+same-length : tie.Need-same-length
+same-length c = search needs
+
+returns : tie.Need-returns
+returns c = ?
+
+pub store-slot-spec : {M : Type 1} → statement M
+store-slot-spec =
+    tie.close
+    (tie.spec
+    mul-at
+    mul-slots
+    slice-write-slots
+    add-slots
+    mul-slots-2
+    slice-write-slots-2
+    add-slots-2
+    mul-slots-3
+    slice-write-slots-3
+    add-slots-3
+    mul-slots-4
+    slice-write-slots-4
+    same-length
+    returns)

@@ -1,0 +1,11 @@
+-- `numbers::count_of` meets its contract. Assumes nothing.
+use mathlib.Core.Path.{sym}
+use Rattle.laws.specs.Lists.{length-listed}
+use Rattle.numbers.proofs.count_of.Statement.{statement}
+use Rattle.numbers.proofs.count_of.Tie as tie
+
+returns : tie.Need-returns
+returns c = sym (length-listed _ _)
+
+pub count-of-spec : {M : Type 1} → statement M
+count-of-spec = tie.close (tie.spec returns)

@@ -1,0 +1,13 @@
+-- `section7::references_coding` meets its contract. Assumes nothing.
+use borrow.Author.Needs.{needs}
+use Rattle.section7.proofs.references_coding.Statement.{statement}
+use Rattle.section7.proofs.references_coding.Tie as tie
+
+small-requires : tie.Need-small-requires
+small-requires c κs = search needs
+
+returns : tie.Need-returns
+returns c = ?
+
+pub references-coding-spec : {M : Type 1} → statement M
+references-coding-spec = tie.close (tie.spec small-requires returns)
