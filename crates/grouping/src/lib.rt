@@ -27,13 +27,21 @@ fn reach_of(end: usize, lookahead: usize, count: usize) -> usize
     count
 }
 
+// The first place that is not known to hold the same number as `end`.
+fn behind(end: usize, level: usize) -> usize
+    requires { ⌜ end < 2 ^ 63 ⌝ }
+    ensures { λ r. ⌜ r ≡ max (end + 1) level ⌝ }
+{
+    if level <= end { end + 1 } else { level }
+}
+
 // How far the numbers from `end` on are equal, as far as the look-ahead reaches; those before `level` are known to be.
 fn level_end(numbers: &[u8], end: usize, level: usize, reach: usize) -> usize
-    requires { ⌜ (end < reach) × (level ≤ reach) × (reach ≤ length (numbersIn (now numbers))) × Level (slice end level (numbersIn (now numbers))) ⌝ }
+    requires { ⌜ (end < reach) × (level ≤ reach) × (reach ≤ length (numbersIn (now numbers))) × (reach ≤ 4194304) × Level (slice end level (numbersIn (now numbers))) ⌝ }
     ensures { λ r. ⌜ (end < r) × (r ≤ reach) × Level (slice end r (numbersIn (now (numbers .entry)))) ⌝ }
 {
     let first = numbers::number_at(numbers, end);
-    let mut i = if level <= end { end + 1 } else { level };
+    let mut i = behind(end, level);
     while i < reach {
         if numbers::number_at(numbers, i) != first {
             return i;

@@ -1,0 +1,5 @@
+pub mod Slices
+pub mod Levels
+pub mod Looking
+pub mod Taking
+pub mod Refusing
