@@ -2,4 +2,5 @@ pub mod Slices
 pub mod Levels
 pub mod Looking
 pub mod Taking
+pub mod Filling
 pub mod Refusing

@@ -11,6 +11,7 @@ use Rattle.format.specs.Lists.{anyOf, greatest}
 use Rattle.format.specs.Grouping.{numberRefusals}
 use Rattle.laws.specs.First.{Gives, Clear, tests}
 use Rattle.laws.specs.Lists.{either-left}
+use Rattle.grouping.specs.Rule.{Limits}
 
 -- a number is above m where the greatest is
 pub none-above : (m : ℕ) (xs : List ℕ) → greatest xs ≤ m → anyOf (ltb m) xs ≡ false
@@ -58,3 +59,12 @@ module _ (k : ℕ) (numbers : List ℕ) where
     pub all-clear : (count ≡ 0 → ⊥) → count ≤ 4194304 → top ≤ 2147483647 → (k ≡ 0 → ⊥) → k ≤ 65535 → Clear (numberRefusals k numbers)
     all-clear a b c d e =
         (omega (arith, tests), (omega (arith, tests), (none-above 2147483647 numbers (omega arith), (omega (arith, tests), (omega (arith, tests), tt)))))
+
+  -- and what is not refused is within the limits
+  pub within : Clear (numberRefusals k numbers) → {size : ℕ} → size ≡ k → Limits numbers size 0
+  within c e = record {
+    few = omega (arith, tests, c .1 .0);
+    ahead = omega (arith, tests, c .1 .1 .1 .0);
+    near = omega (arith, tests, c .1 .1 .1 .1 .0);
+    added = omega arith;
+  }
