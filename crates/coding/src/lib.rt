@@ -9,7 +9,6 @@ ghost use Rattle.format.specs.Layout.{groupSize, groupsIn};
 ghost use Rattle.format.specs.Grouping.{bits};
 ghost use Rattle.format.specs.Packing.{gcd, gcdFrom, divisorUpTo, incrementOf, widthCoding, lengthCoding};
 ghost use Rattle.numbers.specs.Windows.{windowOf};
-ghost use Rattle.numbers.specs.declared.Field.the-variants.{Widths, Lengths};
 ghost use Rattle.numbers.specs.Records.{numberOf, codedTemplate};
 ghost use Rattle.coding.specs.Codes.{Coded};
 use format::Lengths;
@@ -44,8 +43,8 @@ fn gcd(a: u32, b: u32) -> u32
 
 // "step = the greatest common divisor [..] of the differences from it"
 fn step_of(groups: &[u8], count: usize, reference: u32) -> u32
-    requires { ⌜ (count * groupSize ≤ length (now groups)) × (reference ≤ least (map (numberOf Lengths) (groupsIn (now groups) count))) ⌝ }
-    ensures { λ r. ⌜ r ≡ gcdFrom 0 (map (λ n. n - reference) (map (numberOf Lengths) (groupsIn (now (groups .entry)) count))) ⌝ }
+    requires { ⌜ (count * groupSize ≤ length (now groups)) × (reference ≤ least (map (numberOf Field.Lengths) (groupsIn (now groups) count))) ⌝ }
+    ensures { λ r. ⌜ r ≡ gcdFrom 0 (map (λ n. n - reference) (map (numberOf Field.Lengths) (groupsIn (now (groups .entry)) count))) ⌝ }
 {
     let mut step = 0u32;
     let mut k = 0usize;
@@ -83,13 +82,12 @@ fn increment_of(step: u32) -> u32
 // "Width reference = least group width; width bits = bits(greatest − least)."
 fn widths_of(groups: &[u8], count: usize) -> Widths
     requires { ⌜ Coded (now groups) count ⌝ }
-    ensures { λ r. ⌜ r ≡ widthCoding (map (numberOf Widths) (groupsIn (now (groups .entry)) count)) ⌝ }
+    ensures { λ r. ⌜ r ≡ widthCoding (map (numberOf Field.Widths) (groupsIn (now (groups .entry)) count)) ⌝ }
 {
     let widths = window_over(Field::Widths, groups, count);
-    Widths {
-        reference: widths.least as u8,
-        bits: numbers::width(widths) as u8,
-    }
+    let reference = widths.least as u8;
+    let bits = numbers::width(widths) as u8;
+    Widths { reference, bits }
 }
 
 // "Length bits = bits(greatest difference / increment)."
@@ -105,7 +103,7 @@ fn length_bits(difference: u32, increment: u32) -> u32
 // "With one group, length reference, increment and length bits are 0. Otherwise take all lengths but the last".
 fn lengths_of(groups: &[u8], count: usize) -> Lengths
     requires { ⌜ Coded (now groups) count ⌝ }
-    ensures { λ r. ⌜ r ≡ lengthCoding (map (numberOf Lengths) (groupsIn (now (groups .entry)) count)) ⌝ }
+    ensures { λ r. ⌜ r ≡ lengthCoding (map (numberOf Field.Lengths) (groupsIn (now (groups .entry)) count)) ⌝ }
 {
     let last = layout::group_in(groups, count - 1).length;
     if count == 1 {
@@ -119,11 +117,13 @@ fn lengths_of(groups: &[u8], count: usize) -> Lengths
     let lengths = window_over(Field::Lengths, groups, count - 1);
     let reference = lengths.least;
     let increment = increment_of(step_of(groups, count - 1, reference));
+    let bits = length_bits(lengths.greatest - reference, increment) as u8;
+    let increment = increment as u8;
     Lengths {
         reference,
-        increment: increment as u8,
+        increment,
         last,
-        bits: length_bits(lengths.greatest - reference, increment) as u8,
+        bits,
     }
 }
 

@@ -2,7 +2,6 @@
 use mathlib.Core.Path.{_≡_, refl, sym, ap, _∙_}
 use mathlib.Core.List.{List, [], _∷_, _++_, append-assoc}
 use Prim.Native.Nat.{ℕ, suc, _+_, _-_, _*_, _/_, _%_, _^_, _<_}
-use native.Mathlib.Nat.{div-div-eq-div-mul, mod-eq-of-lt, div-add-mod', div-one}
 use native.Mathlib.Omega.{arith}
 use lib.IntN.{ℤ, pos}
 use lib.ListN.{length, getD, length-append}
@@ -12,7 +11,7 @@ use Rattle.format.specs.Bits.{numberAt}
 use Rattle.format.specs.Layout.{bigEndian, pointOctets, markOf, twosComplement}
 use Rattle.format.specs.declared.DecodedValue.{DecodedValue}
 use Rattle.format.specs.declared.DecodedValue.the-variants.{Normal}
-use Rattle.laws.specs.Stores.{sets-mid}
+use Rattle.laws.specs.Stores.{sets-mid, four-octets}
 use Rattle.laws.specs.Lists.{length-listed}
 use Rattle.laws.specs.Bits.{octet, number-octet}
 use Rattle.diff.specs.Restoring.{Lying}
@@ -22,14 +21,6 @@ use Rattle.diff.specs.Restoring.{Lying}
 pub mark-lies : {k : ℕ} {octets : List ℕ} {packed : DecodedValue} {front behind : List ℕ} {mark : ℕ} → Lying k octets packed front behind → mark ≡ getD octets (k * 9) 0
     → mark ≡ markOf packed
 mark-lies {k} {octets} {packed} {front} {behind} l e = e ∙ rw (l .there) (getD-at front (markOf packed) _ 0 (k * 9) (l .long))
-
--- a number below 2^32 and its last four octets
-four-octets : (n : ℕ) → n < 2 ^ 32 → ((n / 16777216 % 256 * 256 + n / 65536 % 256) * 256 + n / 256 % 256) * 256 + n / 1 % 256 ≡ n
-four-octets n h =
-    let two : n / 65536 ≡ n / 256 / 256 = sym (div-div-eq-div-mul n 256 256) in
-    let three : n / 16777216 ≡ n / 256 / 256 / 256 = sym (div-div-eq-div-mul n 65536 256) ∙ ap (λ (m : ℕ). m / 256) two in
-    let small : n / 16777216 < 256 = omega arith in
-    rw (mod-eq-of-lt small, three, two, div-add-mod' (n / 256 / 256) 256, div-add-mod' (n / 256) 256, div-one n) (div-add-mod' n 256)
 
 pub number-lies : {k : ℕ} {octets : List ℕ} {n m : ℕ} {front behind : List ℕ} → Lying k octets (Normal (pos n)) front behind → m ≡ numberAt octets ((k * 9 + 5) * 8) 32 → m ≡ n
 unfolding listed

@@ -1,24 +1,23 @@
 // Packing, after the Rust's encoder: groups, template numbers and payload of a list.
 ghost use mathlib.Core.Path.{_≡_};
-ghost use mathlib.Core.List.{map};
-ghost use Prim.Native.Nat.{_+_, _*_, _-_, _<_, _≤_, _^_};
+ghost use Prim.Native.Nat.{_<_, _≤_, _^_};
 ghost use lib.ListN.{length};
-ghost use lib.Seq.{sets, slice};
-ghost use Rattle.format.specs.Lists.{_over_, total};
-ghost use Rattle.format.specs.Bits.{stringOf, spanOf, roundedUp};
-ghost use Rattle.format.specs.Layout.{numbersIn, inFours, groupSize, groupNumbers, groupAt, groupsIn};
+ghost use Rattle.format.specs.Lists.{_over_};
+ghost use Rattle.format.specs.Layout.{numbersIn, inFours, groupSize, groupsIn};
 ghost use Rattle.format.specs.Refusals.{left};
 ghost use Rattle.format.specs.Grouping.{groups01, recordsFrom};
-ghost use Rattle.format.specs.Packing.{padded, pack, templateNumbers};
-ghost use Rattle.writer.specs.Pen.{Ready, Moved};
+ghost use Rattle.format.specs.Packing.{summarySize, pack};
 ghost use Rattle.grouping.specs.Rule.{Limits, groupsLent};
-ghost use Rattle.encoder.specs.Parts.{codesOf, valuesOf, groupOctets, Codable, Valued, Sound, placesOf, partsOf};
+ghost use Rattle.encoder.specs.Whole.{groupOctets, summaryOf, Packable, rest};
 use format::Grouped;
 use format::OctetPlace;
 use format::Packed;
 use format::Refusal;
 use format::Stored;
 use format::Template;
+
+// Ten numbers of four octets each.
+pub const SUMMARY_SIZE: usize = 40;
 
 // The groups of a list in lent octets, sixteen a group.
 fn store_groups(numbers: &[u8], lookahead: usize, groups: &mut [u8]) -> Grouped
@@ -89,7 +88,7 @@ pub fn pack(
     if grouping::is_refused(numbers, greatest, lookahead) {
         return Packed::Refused(Refusal::Numbers);
     }
-    if summary.len() < 40 {
+    if summary.len() < SUMMARY_SIZE {
         return Packed::Refused(Refusal::Room);
     }
     match store_groups(numbers, places::size(lookahead), groups) {

@@ -17,6 +17,7 @@ use Rattle.format.specs.declared.Grouped.the-variants as grouped
 use Rattle.format.specs.declared.Refusal.the-variants.{Room}
 use Rattle.laws.specs.First.{decides, clears, tests}
 use Rattle.laws.specs.Stores.{flat-over}
+use Rattle.laws.specs.Groups.{length-records}
 use Rattle.grouping.specs.Rule.{Next, groupsLent}
 
 -- ---- where a number is left there is a group
@@ -35,11 +36,6 @@ module _ {A : Type 0} (width : List A → ℕ) (added k : ℕ) where
   unfolding groupsOf
   groups-some [] h = absurd (omega arith)
   groups-some (x ∷ xs) h = from-some (x ∷ []) xs
-
-length-records : (start : ℕ) (groups : List (List ℕ)) → length (recordsFrom start groups) ≡ length groups
-unfolding recordsFrom
-length-records start [] = refl
-length-records start (group ∷ groups) = ap suc (length-records (start + length group) groups)
 
 -- ---- one group more
 

@@ -11,3 +11,4 @@ pub mod Fields
 pub mod Stores
 pub mod Signed
 pub mod Points
+pub mod Groups

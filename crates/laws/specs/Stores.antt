@@ -1,8 +1,8 @@
 -- A store of some octets at a place, however many they are, and things that lie end to end in lent octets. Assumes nothing.
 use mathlib.Core.Path.{_≡_, refl, sym, ap, _∙_}
 use mathlib.Core.List.{List, [], _∷_, _++_, append-assoc, flatMap}
-use Prim.Native.Nat.{ℕ, zero, suc, _+_, _*_, _^_, _≤_}
-use native.Mathlib.Nat.{add-zero, add-suc, zero-add, suc-add, suc-mul, zero-mul, add-mul, pow-suc}
+use Prim.Native.Nat.{ℕ, zero, suc, _+_, _*_, _/_, _%_, _^_, _≤_, _<_}
+use native.Mathlib.Nat.{add-zero, add-suc, zero-add, suc-add, suc-mul, zero-mul, add-mul, pow-suc, div-div-eq-div-mul, mod-eq-of-lt, div-add-mod', div-one}
 use native.Mathlib.Omega.{arith}
 use lib.ListN.{length, set, length-append}
 use lib.Pow.{pow-add}
@@ -66,3 +66,11 @@ module _ {A : Type 0} (octets : A → List ℕ) where
 pub octet-power : (n : ℕ) → 2 ^ (n * 8) ≡ 256 ^ n
 octet-power zero = refl
 octet-power (suc n) = rw (suc-mul n 8, pow-add 2 (n * 8) 8, octet-power n) (sym (pow-suc 256 n))
+
+-- a number below 2^32 and its four octets
+pub four-octets : (n : ℕ) → n < 2 ^ 32 → ((n / 16777216 % 256 * 256 + n / 65536 % 256) * 256 + n / 256 % 256) * 256 + n / 1 % 256 ≡ n
+four-octets n h =
+    let two : n / 65536 ≡ n / 256 / 256 = sym (div-div-eq-div-mul n 256 256) in
+    let three : n / 16777216 ≡ n / 256 / 256 / 256 = sym (div-div-eq-div-mul n 65536 256) ∙ ap (λ (m : ℕ). m / 256) two in
+    let small : n / 16777216 < 256 = omega arith in
+    rw (mod-eq-of-lt small, three, two, div-add-mod' (n / 256 / 256) 256, div-add-mod' (n / 256) 256, div-one n) (div-add-mod' n 256)

@@ -123,6 +123,15 @@ fn put_values(numbers: &[u8], groups: &[u8], count: usize, pen: Pen, payload: &m
     here
 }
 
+// "each starting on an octet": the values.
+fn write_values(numbers: &[u8], groups: &[u8], count: usize, place: OctetPlace, payload: &mut [u8])
+    requires { ⌜ Sound (numbersIn (now numbers)) (now groups) count × (place .0 + roundedUp (total count (λ k. valueBits (groupAt (now groups) k))) ≤ length (now payload)) ⌝ }
+    ensures { λ _. ⌜ now (payload .exit) ≡ sets (now (payload .entry)) (place .0) (padded (joined count (λ k. valueStringOf (numbersIn (now (numbers .entry))) (groupAt (now (groups .entry)) k)))) ⌝ }
+{
+    let pen = put_values(numbers, groups, count, pen_at(place), payload);
+    writer::finish(pen, payload);
+}
+
 // The bits of all values.
 fn value_bits(groups: &[u8], count: usize) -> usize
     requires { ⌜ Narrow (now groups) count ⌝ }
@@ -218,7 +227,6 @@ pub fn write_section7(
     );
     write_codes(widths_coding(template), groups, count, widths, payload);
     write_lengths(lengths_coding(template), groups, count, lengths, payload);
-    let pen = put_values(numbers, groups, count, pen_at(values), payload);
-    writer::finish(pen, payload);
+    write_values(numbers, groups, count, values, payload);
     Stored::Span(end)
 }

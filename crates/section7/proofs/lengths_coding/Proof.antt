@@ -10,7 +10,7 @@ small-requires : tie.Need-small-requires
 small-requires c κs = search needs
 
 returns : tie.Need-returns
-returns c = ?
+returns c = rw (c .small .ensures .0)
 
 pub lengths-coding-spec : {M : Type 1} → statement M
 lengths-coding-spec = tie.close (tie.spec cast-t3 small-requires returns)

@@ -7,7 +7,7 @@ small-requires : tie.Need-small-requires
 small-requires c κs = search needs
 
 returns : tie.Need-returns
-returns c = ?
+returns c = rw (c .small .ensures .0)
 
 pub references-coding-spec : {M : Type 1} → statement M
 references-coding-spec = tie.close (tie.spec small-requires returns)

@@ -1,0 +1,72 @@
+-- The numbers of the first groups that lie in octets. Assumes nothing.
+use mathlib.Core.Path.{_≡_, refl, ap, _∙_}
+use mathlib.Core.List.{List, [], _∷_, _++_, map}
+use Prim.Native.Nat.{ℕ, zero, suc, _+_, _-_, _<_, _≤_}
+use native.Mathlib.Omega.{arith}
+use lib.ListN.{length, getD}
+use Rattle.format.specs.Lists.{listed, greatest, least}
+use Rattle.format.specs.Layout.{groupAt, groupsIn}
+use Rattle.format.specs.declared.Group.{Group}
+use Rattle.laws.specs.Lists.{listed-more, length-listed, getD-listed}
+use Rattle.laws.specs.Extremes.{greatest-snoc, least-snoc, least-lower, least-greatest}
+use Rattle.numbers.specs.declared.Field.{Field}
+use Rattle.numbers.specs.declared.Window.{Window}
+use Rattle.numbers.specs.Windows.{windowOf, widenedBy}
+use Rattle.numbers.specs.Records.{numberOf}
+
+-- ---- any numbers
+
+-- the greatest difference is that of the greatest
+pub greatest-less : (r : ℕ) (xs : List ℕ) → greatest (map (λ n. n - r) xs) ≡ greatest xs - r
+unfolding greatest
+greatest-less r [] = omega arith
+greatest-less r (x ∷ xs) = omega (arith, greatest-less r xs)
+
+map-listed : {A B : Type 0} (g : A → B) (n : ℕ) (f : ℕ → A) → map g (listed n f) ≡ listed n (λ i. g (f i))
+unfolding listed
+map-listed g zero f = refl
+map-listed {B = B} g (suc n) f = ap (λ (l : List B). g (f 0) ∷ l) (map-listed g n (λ i. f (suc i)))
+
+module _ (xs : List ℕ) {w : Window} (e : w ≡ windowOf xs) where
+  pub window-least : w .least ≤ least xs
+  window-least = rw e (omega arith)
+
+  pub window-ordered : w .least ≤ w .greatest
+  window-ordered = rw e (least-greatest xs)
+
+-- ---- those of groups
+
+module _ (field : Field) (octets : List ℕ) where
+  abbrev one : ℕ → ℕ
+  one k = numberOf field (groupAt octets k)
+
+  abbrev pub firsts : ℕ → List ℕ
+  firsts k = map (numberOf field) (groupsIn octets k)
+
+  firsts-listed : (k : ℕ) → firsts k ≡ listed k one
+  firsts-listed k = map-listed (numberOf field) k (groupAt octets)
+
+  pub firsts-next : (k : ℕ) → firsts (k + 1) ≡ firsts k ++ (one k ∷ [])
+  firsts-next k = rw (firsts-listed k, firsts-listed (k + 1)) (listed-more k one)
+
+  pub firsts-last : (k : ℕ) → 0 < k → firsts k ≡ firsts (k - 1) ++ (one (k - 1) ∷ [])
+  firsts-last k p = let e : k ≡ k - 1 + 1 = omega arith in ap firsts e ∙ firsts-next (k - 1)
+
+  length-firsts : (k : ℕ) → length (firsts k) ≡ k
+  length-firsts k = rw (firsts-listed k) (length-listed k one)
+
+  getD-firsts : (k i : ℕ) → i < k → getD (firsts k) i 0 ≡ one i
+  getD-firsts k i l = rw (firsts-listed k) (getD-listed k one 0 i l)
+
+  pub window-first : {w : Window} {g : Group} {x : ℕ} → g ≡ groupAt octets 0 → x ≡ numberOf field g → w ≡ windowOf (x ∷ []) → w ≡ windowOf (firsts 1)
+  unfolding listed
+  window-first {w} {g} {x} eg ex ew = rw (ew, ex, eg)
+
+  -- a turn of a loop that widens a window
+  pub window-next : (k : ℕ) {w v : Window} {g : Group} {x : ℕ} → 0 < k → w ≡ windowOf (firsts k) → g ≡ groupAt octets k → x ≡ numberOf field g → v ≡ widenedBy w x
+      → v ≡ windowOf (firsts (k + 1))
+  window-next k {w} {v} {g} {x} p ew eg ex ev =
+      rw (ev, ew, ex, eg, firsts-next k, greatest-snoc (firsts k) (one k), least-snoc (firsts k) (one k) (rw (length-firsts k) p))
+
+  pub least-below : (k i : ℕ) → i < k → least (firsts k) ≤ one i
+  least-below k i l = rw (← getD-firsts k i l) (least-lower (firsts k) i (rw (length-firsts k) l))

@@ -1,0 +1,3 @@
+pub mod Codings
+pub mod Divisors
+pub mod Firsts

@@ -1,0 +1,80 @@
+-- A part that starts on an octet. Assumes nothing.
+use mathlib.Core.Path.{_≡_, refl, sym, ap, ap₂, _∙_}
+use mathlib.Core.List.{List, [], _∷_, _++_}
+use Prim.Native.Nat.{ℕ, _+_, _*_, _/_, _≤_, _<_}
+use native.Mathlib.Nat.{mul-zero}
+use native.Mathlib.Omega.{arith}
+use lib.ListN.{length, getD, take, drop, length-append, take-append-drop}
+use lib.Seq.{sets, sets-eq, ext-getD, getD-take, length-take-le, getD-append-add}
+use Rattle.format.specs.Lists.{listed, _over_}
+use Rattle.format.specs.Bits.{bitAt, numberOf, bit, stringOf, octetsOf, roundedUp}
+use Rattle.format.specs.Packing.{padded}
+use Rattle.format.specs.declared.OctetPlace.{OctetPlace}
+use Rattle.laws.specs.Lists.{length-listed, getD-listed, listed-ext, listed-add}
+use Rattle.laws.specs.Bits.{bit-lt, number-ext, octet}
+use Rattle.laws.specs.Strings.{bits-listed, octets-front, number-past, length-string}
+use Rattle.writer.specs.Pen.{Held, Ready, Moved, Finished}
+use Rattle.writer.specs.declared.Pen.{Pen}
+use Rattle.writer.proofs.Pens.{moved-ready}
+
+-- octets are those of their bits
+octets-own : (octets : List ℕ) → ((k : ℕ) → getD octets k 0 < 256) → (n : ℕ) → n ≤ length octets → octetsOf (listed (n * 8) (bitAt octets)) n ≡ take n octets
+octets-own octets h n l =
+    let own : ℕ → ℕ = λ j. numberOf (bit (listed (n * 8) (bitAt octets))) (j * 8) 8 in
+    ext-getD 0 _ _ (length-listed n own ∙ sym (length-take-le n octets l))
+    (λ k m.
+    let m′ : k < n = omega (arith, length-listed n own) in
+    getD-listed n own 0 k m′
+    ∙ number-ext (bit (listed (n * 8) (bitAt octets))) (bitAt octets) (k * 8) (k * 8) 8 (λ i b. getD-listed (n * 8) (bitAt octets) 0 (k * 8 + i) (omega arith))
+    ∙ octet octets k (h k) ∙ sym (getD-take n octets k 0 m′))
+
+-- whole octets, and those of what follows them
+octets-behind : (string more : List ℕ) (at n : ℕ) → length string ≡ at * 8 → octetsOf (string ++ more) (at + n) ≡ octetsOf string at ++ octetsOf more n
+octets-behind string more at n e =
+    listed-add at n (λ j. numberOf (bit (string ++ more)) (j * 8) 8)
+    ∙ ap₂ (λ (a b : List ℕ). a ++ b) (octets-front string more at (omega arith))
+    (listed-ext n _ _ (λ j l. number-ext (bit (string ++ more)) (bit more) ((at + j) * 8) (j * 8) 8
+    (λ i m. ap (bit (string ++ more)) (omega arith) ∙ getD-append-add string more (j * 8 + i) 0)))
+
+abbrev fresh : OctetPlace → Pen
+fresh place = record { place = place; number = 0; pending = 0 }
+
+-- a pen on an octet of its own, with room for n bits
+pub fresh-ready : {p : Pen} {place : OctetPlace} → p ≡ fresh place → (n : ℕ) {octets : List ℕ} → place .0 + roundedUp n ≤ length octets → Ready p n octets
+fresh-ready {p} {place} e n l = rw e (record { few = omega arith; small = omega arith; room = omega arith })
+
+pub length-padded : (more : List ℕ) → length (padded more) ≡ roundedUp (length more)
+length-padded more = length-listed (roundedUp (length more)) (λ j. numberOf (bit more) (j * 8) 8)
+
+-- no bits are no octets
+pub none-set : (w : ℕ) (xs octets : List ℕ) (at : ℕ) → w ≡ 0 → octets ≡ sets octets at (padded (stringOf w xs))
+unfolding listed
+none-set w xs octets at e =
+    let none : length (stringOf w xs) ≡ 0 = length-string w xs ∙ ap (λ (n : ℕ). length xs * n) e ∙ mul-zero (length xs) in
+    ap (λ (n : ℕ). sets octets at (octetsOf (stringOf w xs) (roundedUp n))) (sym none)
+
+module _ {p : Pen} {place : OctetPlace} (e : p ≡ fresh place) {more octets octets′ : List ℕ} {q : Pen} (m : Moved p more octets octets′ q)
+    {n : ℕ} (size : length more ≡ n) (r : place .0 + roundedUp n ≤ length octets) where
+  pub part-ready : Ready q 0 octets′
+  part-ready = moved-ready m 0 (fresh-ready e n r) (omega arith)
+
+  -- what stood before the part is as good as written by the pen
+  pub part-done : ((k : ℕ) → getD octets k 0 < 256) → {octets″ : List ℕ} → Finished q octets′ octets″ → octets″ ≡ sets octets (place .0) (padded more)
+  part-done h f =
+      let at = place .0 in
+      let string = listed (at * 8) (bitAt octets) in
+      let long : length string ≡ at * 8 = length-listed (at * 8) (bitAt octets) in
+      let own : octetsOf string at ≡ take at octets = octets-own octets h at (omega arith) in
+      let front : length (take at octets) ≡ at = length-take-le at octets (omega arith) in
+      let all : roundedUp (length (string ++ more)) ≡ at + roundedUp (length more) = omega (arith, length-append string more, long) in
+      let held : Held string octets octets at 0 0 = record {
+        bits = bits-listed (at * 8) (bitAt octets) (bit-lt 8 octets);
+        count = omega arith;
+        value = sym (number-past string (at * 8) 0 (omega arith));
+        front = rw (own, front) (sym (take-append-drop at octets));
+        long = refl;
+      } in
+      f _ _ (m .held string octets (rw e held))
+      ∙ ap (λ (o : List ℕ). o over octets) (ap (octetsOf (string ++ more)) all ∙ octets-behind string more at (roundedUp (length more)) long ∙ ap (λ (o : List ℕ). o ++ padded more) own)
+      ∙ ap (λ (i : ℕ). take at octets ++ padded more ++ drop i octets) (length-append (take at octets) (padded more) ∙ ap (λ (i : ℕ). i + length (padded more)) front)
+      ∙ sym (sets-eq (padded more) octets at (omega (arith, length-padded more)))

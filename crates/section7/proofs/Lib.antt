@@ -1,0 +1,6 @@
+pub mod Listing
+pub mod Puts
+pub mod Aligned
+pub mod Values
+pub mod Codings
+pub mod Payload

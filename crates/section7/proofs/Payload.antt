@@ -1,0 +1,269 @@
+-- The payload of the groups in a lent list, from its four parts. Assumes nothing.
+use mathlib.Core.Path.{_≡_, refl, sym, ap, ap₂, _∙_}
+use mathlib.Core.Bool.{false}
+use mathlib.Core.List.{List, [], _∷_, _++_, map, flatMap}
+use Prim.Native.Nat.{ℕ, zero, suc, _+_, _-_, _*_, _/_, _^_, _≤_, _<_}
+use native.Mathlib.Nat.{zero-add, sub-zero, div-one, div-zero, div-le-self, suc-mul}
+use native.Mathlib.Omega.{arith}
+use borrow.Author.Tests.{le-ltb, lt-ltb}
+use lib.Dec.{ltb}
+use lib.ListN.{length, length-append}
+use lib.Seq.{sets}
+use Rattle.format.specs.Lists.{listed, total, joined, greatest, least, _over_}
+use Rattle.format.specs.Bits.{stringOf, numberAt, roundedUp}
+use Rattle.format.specs.Layout.{groupAt, groupsIn}
+use Rattle.format.specs.Refusals.{first, left}
+use Rattle.format.specs.Grouping.{bits, digitsIn}
+use Rattle.format.specs.Packing.{widthCoding, lengthCoding, lengthCodes, butLast, padded}
+use Rattle.format.specs.declared.Refusal.the-variants.{Room}
+use Rattle.format.specs.declared.Group.{Group}
+use Rattle.format.specs.declared.Lengths as decl
+use Rattle.format.specs.declared.OctetPlace.{OctetPlace}
+use Rattle.format.specs.declared.Places.{Places}
+use Rattle.format.specs.declared.Stored.the-variants as stored
+use Rattle.format.specs.declared.Template.{Template}
+use Rattle.laws.specs.Lists.{length-listed, length-map, listed-ext}
+use Rattle.laws.specs.Bits.{bit-lt, number-lt}
+use Rattle.laws.specs.Strings.{length-string}
+use Rattle.laws.specs.Digits.{bits-le, bits-within}
+use Rattle.laws.specs.Stores.{sets-append, sets-front}
+use Rattle.numbers.specs.Records.{numberOf, codedTemplate}
+use Rattle.numbers.specs.declared.Field.the-variants.{References, Widths, Lengths}
+use Rattle.section7.specs.Parts.{codeOf, codesOf, valueStringOf, valueBits, Codable, Sound, Narrow, placesFor, payloadIn, payloadLent}
+use Rattle.section7.specs.declared.Coding.{Coding}
+use Rattle.section7.proofs.Listing.{map-listed, flat-listed, last-listed, greatest-at, least-at, greatest-upto, divided-le}
+use Rattle.section7.proofs.Aligned.{length-padded}
+use Rattle.section7.proofs.Values.{values-wide, least-upto, size-all}
+use Rattle.section7.proofs.Codings.{codes-are, size-codes, size-last}
+
+-- ---- four parts right behind each other
+
+sets-then : (lent xs ys : List ℕ) {p q : List ℕ} {at : ℕ} → p ≡ sets lent 0 xs → q ≡ sets p at ys → at ≡ length xs → q ≡ sets lent 0 (xs ++ ys)
+sets-then lent xs ys ep eq ea = eq ∙ ap₂ (λ (p : List ℕ) (i : ℕ). sets p i ys) ep (ea ∙ sym (zero-add (length xs))) ∙ sets-append lent 0 xs ys
+
+module _ (a b c d lent : List ℕ) where
+  four-size : length (a ++ b ++ c ++ d) ≡ length a + length b + length c + length d
+  four-size = omega (arith, length-append a b, length-append (a ++ b) c, length-append (a ++ b ++ c) d)
+
+  four-refused : length lent < length a + length b + length c + length d → left (stored.Refused Room) lent ≡ payloadLent (a ++ b ++ c ++ d) lent
+  unfolding first
+  four-refused l = rw (lt-ltb (length lent) (length (a ++ b ++ c ++ d)) (omega (arith, four-size)))
+
+  four-stored : {end : OctetPlace} → end .0 ≤ length lent → end .0 ≡ length a + length b + length c + length d → {p q r s : List ℕ} {i j k : ℕ}
+      → p ≡ sets lent 0 a → q ≡ sets p i b → i ≡ length a → r ≡ sets q j c → j ≡ length a + length b → s ≡ sets r k d → k ≡ length a + length b + length c
+      → left (stored.Span end) s ≡ payloadLent (a ++ b ++ c ++ d) lent
+  unfolding first
+  four-stored {end} l e ep eq ei er ej es ek =
+      let all = a ++ b ++ c ++ d in
+      let fits : ltb (length lent) (length all) ≡ false = le-ltb (length lent) (length all) (omega (arith, four-size)) in
+      let n : end .0 ≡ length all = omega (arith, four-size) in
+      let one = sets-then lent a b ep eq ei in
+      let two = sets-then lent (a ++ b) c one er (omega (arith, length-append a b)) in
+      let three = sets-then lent (a ++ b ++ c) d two es (omega (arith, length-append a b, length-append (a ++ b) c)) in
+      rw (fits, ← n, three ∙ sets-front lent all (omega (arith, n)))
+
+-- ---- the template numbers
+
+below : (octets : List ℕ) (p : ℕ) → numberAt octets p 32 ≤ 4294967295
+below octets p = omega (arith, number-lt (bit-lt 8 octets) p 32)
+
+-- no bits are left of steps of increment 0
+some-increment : (x d : ℕ) → 0 < bits (x / d) → 0 < d
+unfolding bits digitsIn
+some-increment x zero h = rw (div-zero x) at h
+some-increment x (suc d) h = omega arith
+
+-- how all lengths but the last are coded
+record LengthsCoded (l : decl.Lengths) (n : ℕ) (f : ℕ → ℕ) : Type 0 where
+  least-is : l .reference ≡ least (listed n f)
+  bits-is : l .bits ≡ bits (greatest (listed n (λ k. f k - l .reference)) / l .increment)
+
+lengths-coded : (n : ℕ) (f : ℕ → ℕ) {l : decl.Lengths} → l ≡ lengthCoding (listed n f) → LengthsCoded l (n - 1) f
+unfolding lengthCoding
+lengths-coded n f {l} e =
+    let low : l .reference ≡ least (listed (n - 1) f) = ap (λ (c : decl.Lengths). c .reference) e ∙ ap least (last-listed n f) in
+    let differences : map (λ (x : ℕ). x - l .reference) (butLast (listed n f)) ≡ listed (n - 1) (λ k. f k - l .reference) =
+    ap (map (λ (x : ℕ). x - l .reference)) (last-listed n f) ∙ map-listed (λ (x : ℕ). x - l .reference) (n - 1) f in
+    record { least-is = low; bits-is = rw (← differences, e) }
+
+module _ {t : Template} {numbers octets : List ℕ} {count : ℕ} (s : Sound numbers octets count) (e : t ≡ codedTemplate (greatest numbers) (groupsIn octets count)) where
+  abbrev widths : List ℕ
+  widths = listed count (λ k. groupAt octets k .width)
+
+  width-is : t .width ≡ bits (greatest numbers)
+  width-is = ap (λ (u : Template). u .width) e
+
+  reference-is : t .widths .reference ≡ least widths
+  unfolding widthCoding
+  reference-is = ap (λ (u : Template). u .widths .reference) e ∙ ap least (map-listed (numberOf Widths) count (groupAt octets))
+
+  bits-are : t .widths .bits ≡ bits (greatest widths - least widths)
+  unfolding widthCoding
+  bits-are = ap (λ (u : Template). u .widths .bits) e ∙ ap (λ (ws : List ℕ). bits (greatest ws - least ws)) (map-listed (numberOf Widths) count (groupAt octets))
+
+  lengths-are : LengthsCoded (t .lengths) (count - 1) (λ k. groupAt octets k .length)
+  lengths-are =
+      lengths-coded count (λ k. groupAt octets k .length)
+      (ap (λ (u : Template). u .lengths) e ∙ ap lengthCoding (map-listed (numberOf Lengths) count (groupAt octets)))
+
+  module _ (h : greatest numbers < 2 ^ 32) where
+    pub groups-narrow : Narrow octets count
+    groups-narrow = record {
+      few = s .few;
+      there = s .there;
+      short = λ k l. omega (arith, s .each k l .within, s .short);
+      narrow = λ k l. values-wide (s .each k l) h;
+    }
+
+    pub width-top : t .width ≤ 32
+    width-top = rw width-is (bits-le 32 (greatest numbers) h)
+
+  pub widths-top : t .widths .bits ≤ 32
+  widths-top =
+      rw bits-are
+      (bits-le 32 (greatest widths - least widths)
+      (omega (arith, greatest-upto 4294967295 count (λ k. groupAt octets k .width) (λ i l. below octets ((i * 4 + 3) * 32)))))
+
+  pub lengths-top : t .lengths .bits ≤ 32
+  lengths-top =
+      let differences : ℕ → ℕ = λ k. groupAt octets k .length - t .lengths .reference in
+      let g = greatest (listed (count - 1) differences) in
+      rw (lengths-are .bits-is)
+      (bits-le 32 (g / t .lengths .increment)
+      (omega (arith, div-le-self g (t .lengths .increment), greatest-upto 4294967295 (count - 1) differences (λ i l. omega (arith, below octets ((i * 4 + 1) * 32))))))
+
+  -- ---- the codes fit
+
+  abbrev referencesCoding : Coding
+  referencesCoding = record { field = References; reference = 0; increment = 1; bits = t .width }
+
+  abbrev widthsCoding : Coding
+  widthsCoding = record { field = Widths; reference = t .widths .reference; increment = 1; bits = t .widths .bits }
+
+  abbrev lengthsCoding : Coding
+  lengthsCoding = record { field = Lengths; reference = t .lengths .reference; increment = t .lengths .increment; bits = t .lengths .bits }
+
+  pub references-codable : greatest numbers < 2 ^ 32 → Codable referencesCoding octets count
+  references-codable h = record {
+    there = s .there;
+    top = width-top h;
+    pos = λ b. omega arith;
+    low = λ k l. omega arith;
+    fit = λ k l. let m : groupAt octets k .least < 2 ^ t .width = rw width-is (bits-within (groupAt octets k .least) (greatest numbers) (least-upto (s .each k l))) in omega arith;
+  }
+
+  pub widths-codable : Codable widthsCoding octets count
+  widths-codable =
+      let f : ℕ → ℕ = λ k. groupAt octets k .width in
+      record {
+        there = s .there;
+        top = widths-top;
+        pos = λ b. omega arith;
+        low = λ k l. rw reference-is (least-at count f k l);
+        fit = λ k l.
+            let m : f k - t .widths .reference < 2 ^ t .widths .bits =
+            rw (reference-is, bits-are) (bits-within (f k - least widths) (greatest widths - least widths) (omega (arith, greatest-at count f k l))) in
+            omega arith;
+      }
+
+  pub lengths-codable : Codable lengthsCoding octets (count - 1)
+  lengths-codable =
+      let f : ℕ → ℕ = λ k. groupAt octets k .length in
+      let differences : ℕ → ℕ = λ k. f k - t .lengths .reference in
+      record {
+        there = omega (arith, s .there);
+        top = lengths-top;
+        pos = λ b. some-increment (greatest (listed (count - 1) differences)) (t .lengths .increment) (rw (lengths-are .bits-is) at b);
+        low = λ k l. rw (lengths-are .least-is) (least-at (count - 1) f k l);
+        fit = λ k l.
+            rw (lengths-are .bits-is)
+            (bits-within (differences k / t .lengths .increment) (greatest (listed (count - 1) differences) / t .lengths .increment)
+            (divided-le (differences k) (greatest (listed (count - 1) differences)) (t .lengths .increment) (greatest-at (count - 1) differences k l)));
+      }
+
+  -- ---- the parts
+
+  abbrev referencesPart : List ℕ
+  referencesPart = padded (stringOf (t .width) (codesOf referencesCoding (groupsIn octets count)))
+
+  abbrev widthsPart : List ℕ
+  widthsPart = padded (stringOf (t .widths .bits) (codesOf widthsCoding (groupsIn octets count)))
+
+  abbrev lengthsPart : List ℕ
+  lengthsPart = padded (stringOf (t .lengths .bits) (codesOf lengthsCoding (groupsIn octets (count - 1)) ++ (0 ∷ [])))
+
+  abbrev valuesPart : List ℕ
+  valuesPart = padded (joined count (λ k. valueStringOf numbers (groupAt octets k)))
+
+  codes-plain : (c : Coding) (f : Group → ℕ) → ((k : ℕ) → codeOf c (groupAt octets k) ≡ f (groupAt octets k)) → map f (groupsIn octets count) ≡ codesOf c (groupsIn octets count)
+  codes-plain c f h = map-listed f count (groupAt octets) ∙ listed-ext count _ _ (λ k l. sym (h k)) ∙ sym (codes-are c octets count)
+
+  codes-last : lengthCodes (t .lengths) (map (numberOf Lengths) (groupsIn octets count)) ≡ codesOf lengthsCoding (groupsIn octets (count - 1)) ++ (0 ∷ [])
+  unfolding lengthCodes
+  codes-last =
+      let coded : ℕ → ℕ = λ x. (x - t .lengths .reference) / t .lengths .increment in
+      ap (λ (xs : List ℕ). map coded xs ++ (0 ∷ [])) (ap butLast (map-listed (numberOf Lengths) count (groupAt octets)) ∙ last-listed count (λ k. groupAt octets k .length))
+      ∙ ap (λ (xs : List ℕ). xs ++ (0 ∷ [])) (map-listed coded (count - 1) (λ k. groupAt octets k .length) ∙ sym (codes-are lengthsCoding octets (count - 1)))
+
+  payload-is : payloadIn numbers t (groupsIn octets count) ≡ referencesPart ++ widthsPart ++ lengthsPart ++ valuesPart
+  payload-is =
+      ap₂ (λ (a b : List ℕ). a ++ b)
+      (ap₂ (λ (a b : List ℕ). a ++ b)
+      (ap₂ (λ (a b : List ℕ). padded (stringOf (t .width) a) ++ padded (stringOf (t .widths .bits) b))
+      (codes-plain referencesCoding (λ g. numberOf References g) (λ k. omega arith))
+      (codes-plain widthsCoding (λ g. numberOf Widths g - t .widths .reference) (λ k. omega arith)))
+      (ap (λ (a : List ℕ). padded (stringOf (t .lengths .bits) a)) codes-last))
+      (ap padded (flat-listed (valueStringOf numbers) count (groupAt octets)))
+
+  module _ {bits : ℕ} (eb : (bits ≡ total count (λ k. valueBits (groupAt octets k))) × (bits ≤ count * 134217728)) {places : Places} (ep : places ≡ placesFor t count bits) where
+    size-references : length referencesPart ≡ roundedUp (count * t .width)
+    size-references = length-padded (stringOf (t .width) (codesOf referencesCoding (groupsIn octets count))) ∙ ap roundedUp (size-codes referencesCoding octets count)
+
+    size-widths : length widthsPart ≡ roundedUp (count * t .widths .bits)
+    size-widths = length-padded (stringOf (t .widths .bits) (codesOf widthsCoding (groupsIn octets count))) ∙ ap roundedUp (size-codes widthsCoding octets count)
+
+    size-lengths : length lengthsPart ≡ roundedUp (count * t .lengths .bits)
+    size-lengths =
+        length-padded (stringOf (t .lengths .bits) (codesOf lengthsCoding (groupsIn octets (count - 1)) ++ (0 ∷ [])))
+        ∙ ap roundedUp (size-last lengthsCoding octets count (s .some))
+
+    size-values : length valuesPart ≡ roundedUp bits
+    size-values = length-padded (joined count (λ k. valueStringOf numbers (groupAt octets k))) ∙ ap roundedUp (size-all s ∙ sym (eb .0))
+
+    abbrev ends : ℕ
+    ends = length referencesPart + length widthsPart + length lengthsPart + length valuesPart
+
+    end-is : places .end .0 ≡ ends
+    end-is = rw ep (omega (arith, size-references, size-widths, size-lengths, size-values))
+
+    pub payload-refused : {lent : List ℕ} → length lent < places .end .0 → left (stored.Refused Room) lent ≡ payloadLent (payloadIn numbers t (groupsIn octets count)) lent
+    payload-refused {lent} l = rw payload-is (four-refused referencesPart widthsPart lengthsPart valuesPart lent (omega (arith, end-is)))
+
+    -- what each part asks
+    module _ {long : ℕ} (r : places .end .0 ≤ long) where
+      pub references-asked : greatest numbers < 2 ^ 32 → {c : Coding} → c ≡ referencesCoding → Codable c octets count × (places .references .0 + roundedUp (count * c .bits) ≤ long)
+      references-asked h ec = let m = rw ep at r in rw (ec, ep) (references-codable h, omega arith)
+
+      pub widths-asked : {c : Coding} → c ≡ widthsCoding → Codable c octets count × (places .widths .0 + roundedUp (count * c .bits) ≤ long)
+      widths-asked ec = let m = rw ep at r in rw (ec, ep) (widths-codable, omega arith)
+
+      pub lengths-asked : {c : Coding} → c ≡ lengthsCoding → (0 < count) × Codable c octets (count - 1) × (places .lengths .0 + roundedUp (count * c .bits) ≤ long)
+      lengths-asked ec = let m = rw ep at r in rw (ec, ep) (s .some, lengths-codable, omega arith)
+
+      pub values-asked : Sound numbers octets count × (places .values .0 + roundedUp (total count (λ k. valueBits (groupAt octets k))) ≤ long)
+      values-asked = let m = rw ep at r in rw (ep, ← eb .0) (s, omega arith)
+
+    -- and what they come to
+    pub payload-stored : {lent : List ℕ} → places .end .0 ≤ length lent
+        → {c₁ : Coding} → c₁ ≡ referencesCoding → {p₁ : List ℕ} → p₁ ≡ sets lent (places .references .0) (padded (stringOf (c₁ .bits) (codesOf c₁ (groupsIn octets count))))
+        → {c₂ : Coding} → c₂ ≡ widthsCoding → {p₂ : List ℕ} → p₂ ≡ sets p₁ (places .widths .0) (padded (stringOf (c₂ .bits) (codesOf c₂ (groupsIn octets count))))
+        → {c₃ : Coding} → c₃ ≡ lengthsCoding → {p₃ : List ℕ} → p₃ ≡ sets p₂ (places .lengths .0) (padded (stringOf (c₃ .bits) (codesOf c₃ (groupsIn octets (count - 1)) ++ (0 ∷ []))))
+        → {p₄ : List ℕ} → p₄ ≡ sets p₃ (places .values .0) valuesPart
+        → left (stored.Span (places .end)) p₄ ≡ payloadLent (payloadIn numbers t (groupsIn octets count)) lent
+    payload-stored {lent} r ec₁ e₁ ec₂ e₂ ec₃ e₃ e₄ =
+        rw payload-is
+        (four-stored referencesPart widthsPart lengthsPart valuesPart lent r end-is
+        (rw (ec₁, ep) at e₁)
+        (rw ec₂ at e₂) (rw ep (sym size-references))
+        (rw ec₃ at e₃) (rw ep (omega (arith, size-references, size-widths)))
+        e₄ (rw ep (omega (arith, size-references, size-widths, size-lengths))))
