@@ -1,6 +1,6 @@
 // Packing, after the Rust's encoder: groups, template numbers and payload of a list.
 ghost use mathlib.Core.Path.{_≡_};
-ghost use Prim.Native.Nat.{_<_, _≤_, _^_};
+ghost use Prim.Native.Nat.{_<_, _≤_, _^_, _*_};
 ghost use lib.ListN.{length};
 ghost use Rattle.format.specs.Lists.{_over_};
 ghost use Rattle.format.specs.Layout.{numbersIn, inFours, groupSize, groupsIn};
@@ -40,21 +40,36 @@ fn store_groups(numbers: &[u8], lookahead: usize, groups: &mut [u8]) -> Grouped
     Grouped::Groups(k as u32)
 }
 
+// Numbers of four octets each.
+fn store_numbers(numbers: &[u32], octets: &mut [u8])
+    requires { ⌜ length (now numbers) * 4 ≤ length (now octets) ⌝ }
+    ensures { λ _. ⌜ now (octets .exit) ≡ inFours (now (numbers .entry)) over now (octets .entry) ⌝ }
+{
+    let mut k = 0usize;
+    while k < numbers.len() {
+        layout::store_number(octets, k, numbers[k]);
+        k += 1;
+    }
+}
+
 // "Packing's eight template numbers, in the order of the cases, the group count and the payload length go to a lent 40 octets"
 fn store_summary(template: Template, octets: OctetPlace, summary: &mut [u8])
     requires { ⌜ (summarySize ≤ length (now summary)) × (octets .0 < 2 ^ 32) ⌝ }
     ensures { λ _. ⌜ now (summary .exit) ≡ inFours (summaryOf template (octets .0)) over now (summary .entry) ⌝ }
 {
-    layout::store_number(summary, 0, template.width as u32);
-    layout::store_number(summary, 1, template.groups);
-    layout::store_number(summary, 2, template.widths.reference as u32);
-    layout::store_number(summary, 3, template.widths.bits as u32);
-    layout::store_number(summary, 4, template.lengths.reference);
-    layout::store_number(summary, 5, template.lengths.increment as u32);
-    layout::store_number(summary, 6, template.lengths.last);
-    layout::store_number(summary, 7, template.lengths.bits as u32);
-    layout::store_number(summary, 8, template.groups);
-    layout::store_number(summary, 9, octets.0 as u32);
+    let numbers = [
+        template.width as u32,
+        template.groups,
+        template.widths.reference as u32,
+        template.widths.bits as u32,
+        template.lengths.reference,
+        template.lengths.increment as u32,
+        template.lengths.last,
+        template.lengths.bits as u32,
+        template.groups,
+        octets.0 as u32,
+    ];
+    store_numbers(&numbers, summary);
 }
 
 // What is left once the groups are stored.

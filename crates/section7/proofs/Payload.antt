@@ -1,15 +1,15 @@
 -- The payload of the groups in a lent list, from its four parts. Assumes nothing.
-use mathlib.Core.Path.{_≡_, refl, sym, ap, ap₂, _∙_}
+use mathlib.Core.Path.{_≡_, sym, ap, ap₂, _∙_}
 use mathlib.Core.Bool.{false}
-use mathlib.Core.List.{List, [], _∷_, _++_, map, flatMap}
+use mathlib.Core.List.{List, [], _∷_, _++_, map}
 use Prim.Native.Nat.{ℕ, zero, suc, _+_, _-_, _*_, _/_, _^_, _≤_, _<_}
-use native.Mathlib.Nat.{zero-add, sub-zero, div-one, div-zero, div-le-self, suc-mul}
+use native.Mathlib.Nat.{zero-add, div-zero, div-le-self}
 use native.Mathlib.Omega.{arith}
 use borrow.Author.Tests.{le-ltb, lt-ltb}
 use lib.Dec.{ltb}
 use lib.ListN.{length, length-append}
 use lib.Seq.{sets}
-use Rattle.format.specs.Lists.{listed, total, joined, greatest, least, _over_}
+use Rattle.format.specs.Lists.{listed, total, joined, greatest, least}
 use Rattle.format.specs.Bits.{stringOf, numberAt, roundedUp}
 use Rattle.format.specs.Layout.{groupAt, groupsIn}
 use Rattle.format.specs.Refusals.{first, left}
@@ -22,9 +22,8 @@ use Rattle.format.specs.declared.OctetPlace.{OctetPlace}
 use Rattle.format.specs.declared.Places.{Places}
 use Rattle.format.specs.declared.Stored.the-variants as stored
 use Rattle.format.specs.declared.Template.{Template}
-use Rattle.laws.specs.Lists.{length-listed, length-map, listed-ext}
+use Rattle.laws.specs.Lists.{listed-ext}
 use Rattle.laws.specs.Bits.{bit-lt, number-lt}
-use Rattle.laws.specs.Strings.{length-string}
 use Rattle.laws.specs.Digits.{bits-le, bits-within}
 use Rattle.laws.specs.Stores.{sets-append, sets-front}
 use Rattle.numbers.specs.Records.{numberOf, codedTemplate}
@@ -60,7 +59,7 @@ module _ (a b c d lent : List ℕ) where
       let one = sets-then lent a b ep eq ei in
       let two = sets-then lent (a ++ b) c one er (omega (arith, length-append a b)) in
       let three = sets-then lent (a ++ b ++ c) d two es (omega (arith, length-append a b, length-append (a ++ b) c)) in
-      rw (fits, ← n, three ∙ sets-front lent all (omega (arith, n)))
+      rw (fits, three ∙ sets-front lent all (omega (arith, n)), ← n)
 
 -- ---- the template numbers
 
@@ -132,65 +131,70 @@ module _ {t : Template} {numbers octets : List ℕ} {count : ℕ} (s : Sound num
       (bits-le 32 (g / t .lengths .increment)
       (omega (arith, div-le-self g (t .lengths .increment), greatest-upto 4294967295 (count - 1) differences (λ i l. omega (arith, below octets ((i * 4 + 1) * 32))))))
 
-  -- ---- the codes fit
+-- ---- the codes fit
 
-  abbrev referencesCoding : Coding
-  referencesCoding = record { field = References; reference = 0; increment = 1; bits = t .width }
+abbrev referencesCoding : Template → Coding
+referencesCoding t = record { field = References; reference = 0; increment = 1; bits = t .width }
 
-  abbrev widthsCoding : Coding
-  widthsCoding = record { field = Widths; reference = t .widths .reference; increment = 1; bits = t .widths .bits }
+abbrev widthsCoding : Template → Coding
+widthsCoding t = record { field = Widths; reference = t .widths .reference; increment = 1; bits = t .widths .bits }
 
-  abbrev lengthsCoding : Coding
-  lengthsCoding = record { field = Lengths; reference = t .lengths .reference; increment = t .lengths .increment; bits = t .lengths .bits }
+abbrev lengthsCoding : Template → Coding
+lengthsCoding t = record { field = Lengths; reference = t .lengths .reference; increment = t .lengths .increment; bits = t .lengths .bits }
 
-  pub references-codable : greatest numbers < 2 ^ 32 → Codable referencesCoding octets count
+module _ {t : Template} {numbers octets : List ℕ} {count : ℕ} (s : Sound numbers octets count) (e : t ≡ codedTemplate (greatest numbers) (groupsIn octets count)) where
+  references-codable : greatest numbers < 2 ^ 32 → Codable (referencesCoding t) octets count
   references-codable h = record {
     there = s .there;
-    top = width-top h;
+    top = width-top s e h;
     pos = λ b. omega arith;
     low = λ k l. omega arith;
-    fit = λ k l. let m : groupAt octets k .least < 2 ^ t .width = rw width-is (bits-within (groupAt octets k .least) (greatest numbers) (least-upto (s .each k l))) in omega arith;
+    fit = λ k l.
+        let m : groupAt octets k .least < 2 ^ t .width = rw (width-is s e) (bits-within (groupAt octets k .least) (greatest numbers) (least-upto (s .each k l))) in
+        omega arith;
   }
 
-  pub widths-codable : Codable widthsCoding octets count
+  widths-codable : Codable (widthsCoding t) octets count
   widths-codable =
       let f : ℕ → ℕ = λ k. groupAt octets k .width in
       record {
         there = s .there;
-        top = widths-top;
+        top = widths-top s e;
         pos = λ b. omega arith;
-        low = λ k l. rw reference-is (least-at count f k l);
+        low = λ k l. rw (reference-is s e) (least-at count f k l);
         fit = λ k l.
             let m : f k - t .widths .reference < 2 ^ t .widths .bits =
-            rw (reference-is, bits-are) (bits-within (f k - least widths) (greatest widths - least widths) (omega (arith, greatest-at count f k l))) in
+            rw (reference-is s e, bits-are s e) (bits-within (f k - least (listed count f)) (greatest (listed count f) - least (listed count f)) (omega (arith, greatest-at count f k l))) in
             omega arith;
       }
 
-  pub lengths-codable : Codable lengthsCoding octets (count - 1)
+  lengths-codable : Codable (lengthsCoding t) octets (count - 1)
   lengths-codable =
       let f : ℕ → ℕ = λ k. groupAt octets k .length in
       let differences : ℕ → ℕ = λ k. f k - t .lengths .reference in
+      let g = greatest (listed (count - 1) differences) in
+      let coded = lengths-are s e in
       record {
         there = omega (arith, s .there);
-        top = lengths-top;
-        pos = λ b. some-increment (greatest (listed (count - 1) differences)) (t .lengths .increment) (rw (lengths-are .bits-is) at b);
-        low = λ k l. rw (lengths-are .least-is) (least-at (count - 1) f k l);
+        top = lengths-top s e;
+        pos = λ b. some-increment g (t .lengths .increment) (rw (coded .bits-is) at b);
+        low = λ k l. rw (coded .least-is) (least-at (count - 1) f k l);
         fit = λ k l.
-            rw (lengths-are .bits-is)
-            (bits-within (differences k / t .lengths .increment) (greatest (listed (count - 1) differences) / t .lengths .increment)
-            (divided-le (differences k) (greatest (listed (count - 1) differences)) (t .lengths .increment) (greatest-at (count - 1) differences k l)));
+            rw (coded .bits-is)
+            (bits-within (differences k / t .lengths .increment) (g / t .lengths .increment) (divided-le (differences k) g (t .lengths .increment) (greatest-at (count - 1) differences k l)));
       }
 
-  -- ---- the parts
+-- ---- the parts
 
+module _ (t : Template) (numbers octets : List ℕ) (count : ℕ) where
   abbrev referencesPart : List ℕ
-  referencesPart = padded (stringOf (t .width) (codesOf referencesCoding (groupsIn octets count)))
+  referencesPart = padded (stringOf (t .width) (codesOf (referencesCoding t) (groupsIn octets count)))
 
   abbrev widthsPart : List ℕ
-  widthsPart = padded (stringOf (t .widths .bits) (codesOf widthsCoding (groupsIn octets count)))
+  widthsPart = padded (stringOf (t .widths .bits) (codesOf (widthsCoding t) (groupsIn octets count)))
 
   abbrev lengthsPart : List ℕ
-  lengthsPart = padded (stringOf (t .lengths .bits) (codesOf lengthsCoding (groupsIn octets (count - 1)) ++ (0 ∷ [])))
+  lengthsPart = padded (stringOf (t .lengths .bits) (codesOf (lengthsCoding t) (groupsIn octets (count - 1)) ++ (0 ∷ [])))
 
   abbrev valuesPart : List ℕ
   valuesPart = padded (joined count (λ k. valueStringOf numbers (groupAt octets k)))
@@ -198,72 +202,88 @@ module _ {t : Template} {numbers octets : List ℕ} {count : ℕ} (s : Sound num
   codes-plain : (c : Coding) (f : Group → ℕ) → ((k : ℕ) → codeOf c (groupAt octets k) ≡ f (groupAt octets k)) → map f (groupsIn octets count) ≡ codesOf c (groupsIn octets count)
   codes-plain c f h = map-listed f count (groupAt octets) ∙ listed-ext count _ _ (λ k l. sym (h k)) ∙ sym (codes-are c octets count)
 
-  codes-last : lengthCodes (t .lengths) (map (numberOf Lengths) (groupsIn octets count)) ≡ codesOf lengthsCoding (groupsIn octets (count - 1)) ++ (0 ∷ [])
+  codes-last : lengthCodes (t .lengths) (map (numberOf Lengths) (groupsIn octets count)) ≡ codesOf (lengthsCoding t) (groupsIn octets (count - 1)) ++ (0 ∷ [])
   unfolding lengthCodes
   codes-last =
       let coded : ℕ → ℕ = λ x. (x - t .lengths .reference) / t .lengths .increment in
-      ap (λ (xs : List ℕ). map coded xs ++ (0 ∷ [])) (ap butLast (map-listed (numberOf Lengths) count (groupAt octets)) ∙ last-listed count (λ k. groupAt octets k .length))
-      ∙ ap (λ (xs : List ℕ). xs ++ (0 ∷ [])) (map-listed coded (count - 1) (λ k. groupAt octets k .length) ∙ sym (codes-are lengthsCoding octets (count - 1)))
+      let lengths : ℕ → ℕ = λ k. groupAt octets k .length in
+      ap (λ (xs : List ℕ). map coded xs ++ (0 ∷ [])) (ap butLast (map-listed (numberOf Lengths) count (groupAt octets)) ∙ last-listed count lengths)
+      ∙ ap (λ (xs : List ℕ). xs ++ (0 ∷ [])) (map-listed coded (count - 1) lengths ∙ sym (codes-are (lengthsCoding t) octets (count - 1)))
 
   payload-is : payloadIn numbers t (groupsIn octets count) ≡ referencesPart ++ widthsPart ++ lengthsPart ++ valuesPart
   payload-is =
       ap₂ (λ (a b : List ℕ). a ++ b)
       (ap₂ (λ (a b : List ℕ). a ++ b)
       (ap₂ (λ (a b : List ℕ). padded (stringOf (t .width) a) ++ padded (stringOf (t .widths .bits) b))
-      (codes-plain referencesCoding (λ g. numberOf References g) (λ k. omega arith))
-      (codes-plain widthsCoding (λ g. numberOf Widths g - t .widths .reference) (λ k. omega arith)))
+      (codes-plain (referencesCoding t) (λ g. numberOf References g) (λ k. omega arith))
+      (codes-plain (widthsCoding t) (λ g. numberOf Widths g - t .widths .reference) (λ k. omega arith)))
       (ap (λ (a : List ℕ). padded (stringOf (t .lengths .bits) a)) codes-last))
       (ap padded (flat-listed (valueStringOf numbers) count (groupAt octets)))
 
-  module _ {bits : ℕ} (eb : (bits ≡ total count (λ k. valueBits (groupAt octets k))) × (bits ≤ count * 134217728)) {places : Places} (ep : places ≡ placesFor t count bits) where
-    size-references : length referencesPart ≡ roundedUp (count * t .width)
-    size-references = length-padded (stringOf (t .width) (codesOf referencesCoding (groupsIn octets count))) ∙ ap roundedUp (size-codes referencesCoding octets count)
+  size-references : length referencesPart ≡ roundedUp (count * t .width)
+  size-references = length-padded (stringOf (t .width) (codesOf (referencesCoding t) (groupsIn octets count))) ∙ ap roundedUp (size-codes (referencesCoding t) octets count)
 
-    size-widths : length widthsPart ≡ roundedUp (count * t .widths .bits)
-    size-widths = length-padded (stringOf (t .widths .bits) (codesOf widthsCoding (groupsIn octets count))) ∙ ap roundedUp (size-codes widthsCoding octets count)
+  size-widths : length widthsPart ≡ roundedUp (count * t .widths .bits)
+  size-widths = length-padded (stringOf (t .widths .bits) (codesOf (widthsCoding t) (groupsIn octets count))) ∙ ap roundedUp (size-codes (widthsCoding t) octets count)
 
-    size-lengths : length lengthsPart ≡ roundedUp (count * t .lengths .bits)
-    size-lengths =
-        length-padded (stringOf (t .lengths .bits) (codesOf lengthsCoding (groupsIn octets (count - 1)) ++ (0 ∷ [])))
-        ∙ ap roundedUp (size-last lengthsCoding octets count (s .some))
+  size-lengths : 0 < count → length lengthsPart ≡ roundedUp (count * t .lengths .bits)
+  size-lengths l =
+      length-padded (stringOf (t .lengths .bits) (codesOf (lengthsCoding t) (groupsIn octets (count - 1)) ++ (0 ∷ []))) ∙ ap roundedUp (size-last (lengthsCoding t) octets count l)
 
-    size-values : length valuesPart ≡ roundedUp bits
-    size-values = length-padded (joined count (λ k. valueStringOf numbers (groupAt octets k))) ∙ ap roundedUp (size-all s ∙ sym (eb .0))
+  size-values : Sound numbers octets count → length valuesPart ≡ roundedUp (total count (λ k. valueBits (groupAt octets k)))
+  size-values s = length-padded (joined count (λ k. valueStringOf numbers (groupAt octets k))) ∙ ap roundedUp (size-all s)
 
-    abbrev ends : ℕ
-    ends = length referencesPart + length widthsPart + length lengthsPart + length valuesPart
+-- ---- the whole
 
-    end-is : places .end .0 ≡ ends
-    end-is = rw ep (omega (arith, size-references, size-widths, size-lengths, size-values))
+-- what the code knows once it has the places
+pub record Placed (t : Template) (numbers octets : List ℕ) (count : ℕ) (places : Places) : Type 0 where
+  pub sound : Sound numbers octets count
+  pub coded : t ≡ codedTemplate (greatest numbers) (groupsIn octets count)
+  pub below : greatest numbers < 2 ^ 32
+  pub placed : places ≡ placesFor t count (total count (λ k. valueBits (groupAt octets k)))
 
-    pub payload-refused : {lent : List ℕ} → length lent < places .end .0 → left (stored.Refused Room) lent ≡ payloadLent (payloadIn numbers t (groupsIn octets count)) lent
-    payload-refused {lent} l = rw payload-is (four-refused referencesPart widthsPart lengthsPart valuesPart lent (omega (arith, end-is)))
+module _ {t : Template} {numbers octets : List ℕ} {count : ℕ} {places : Places} (x : Placed t numbers octets count places) where
+  abbrev ends : ℕ
+  ends = length (referencesPart t numbers octets count) + length (widthsPart t numbers octets count) + length (lengthsPart t numbers octets count) + length (valuesPart t numbers octets count)
 
-    -- what each part asks
-    module _ {long : ℕ} (r : places .end .0 ≤ long) where
-      pub references-asked : greatest numbers < 2 ^ 32 → {c : Coding} → c ≡ referencesCoding → Codable c octets count × (places .references .0 + roundedUp (count * c .bits) ≤ long)
-      references-asked h ec = let m = rw ep at r in rw (ec, ep) (references-codable h, omega arith)
+  end-is : places .end .0 ≡ ends
+  end-is =
+      rw (x .placed)
+      (omega (arith, size-references t numbers octets count, size-widths t numbers octets count, size-lengths t numbers octets count (x .sound .some), size-values t numbers octets count (x .sound)))
 
-      pub widths-asked : {c : Coding} → c ≡ widthsCoding → Codable c octets count × (places .widths .0 + roundedUp (count * c .bits) ≤ long)
-      widths-asked ec = let m = rw ep at r in rw (ec, ep) (widths-codable, omega arith)
+  pub payload-refused : {lent : List ℕ} → length lent < places .end .0 → left (stored.Refused Room) lent ≡ payloadLent (payloadIn numbers t (groupsIn octets count)) lent
+  payload-refused {lent} l =
+      rw (payload-is t numbers octets count)
+      (four-refused (referencesPart t numbers octets count) (widthsPart t numbers octets count) (lengthsPart t numbers octets count) (valuesPart t numbers octets count) lent (omega (arith, end-is)))
 
-      pub lengths-asked : {c : Coding} → c ≡ lengthsCoding → (0 < count) × Codable c octets (count - 1) × (places .lengths .0 + roundedUp (count * c .bits) ≤ long)
-      lengths-asked ec = let m = rw ep at r in rw (ec, ep) (s .some, lengths-codable, omega arith)
+  -- what each part asks
+  module _ {long : ℕ} (r : places .end .0 ≤ long) where
+    pub references-asked : {c : Coding} → c ≡ referencesCoding t → Codable c octets count × (places .references .0 + roundedUp (count * c .bits) ≤ long)
+    references-asked e = let m = rw (x .placed) at r in rw (e, x .placed) (references-codable (x .sound) (x .coded) (x .below), omega arith)
 
-      pub values-asked : Sound numbers octets count × (places .values .0 + roundedUp (total count (λ k. valueBits (groupAt octets k))) ≤ long)
-      values-asked = let m = rw ep at r in rw (ep, ← eb .0) (s, omega arith)
+    pub widths-asked : {c : Coding} → c ≡ widthsCoding t → Codable c octets count × (places .widths .0 + roundedUp (count * c .bits) ≤ long)
+    widths-asked e = let m = rw (x .placed) at r in rw (e, x .placed) (widths-codable (x .sound) (x .coded), omega arith)
 
-    -- and what they come to
-    pub payload-stored : {lent : List ℕ} → places .end .0 ≤ length lent
-        → {c₁ : Coding} → c₁ ≡ referencesCoding → {p₁ : List ℕ} → p₁ ≡ sets lent (places .references .0) (padded (stringOf (c₁ .bits) (codesOf c₁ (groupsIn octets count))))
-        → {c₂ : Coding} → c₂ ≡ widthsCoding → {p₂ : List ℕ} → p₂ ≡ sets p₁ (places .widths .0) (padded (stringOf (c₂ .bits) (codesOf c₂ (groupsIn octets count))))
-        → {c₃ : Coding} → c₃ ≡ lengthsCoding → {p₃ : List ℕ} → p₃ ≡ sets p₂ (places .lengths .0) (padded (stringOf (c₃ .bits) (codesOf c₃ (groupsIn octets (count - 1)) ++ (0 ∷ []))))
-        → {p₄ : List ℕ} → p₄ ≡ sets p₃ (places .values .0) valuesPart
-        → left (stored.Span (places .end)) p₄ ≡ payloadLent (payloadIn numbers t (groupsIn octets count)) lent
-    payload-stored {lent} r ec₁ e₁ ec₂ e₂ ec₃ e₃ e₄ =
-        rw payload-is
-        (four-stored referencesPart widthsPart lengthsPart valuesPart lent r end-is
-        (rw (ec₁, ep) at e₁)
-        (rw ec₂ at e₂) (rw ep (sym size-references))
-        (rw ec₃ at e₃) (rw ep (omega (arith, size-references, size-widths)))
-        e₄ (rw ep (omega (arith, size-references, size-widths, size-lengths))))
+    pub lengths-asked : {c : Coding} → c ≡ lengthsCoding t → (0 < count) × Codable c octets (count - 1) × (places .lengths .0 + roundedUp (count * c .bits) ≤ long)
+    lengths-asked e = let m = rw (x .placed) at r in rw (e, x .placed) (x .sound .some, lengths-codable (x .sound) (x .coded), omega arith)
+
+    pub values-asked : Sound numbers octets count × (places .values .0 + roundedUp (total count (λ k. valueBits (groupAt octets k))) ≤ long)
+    values-asked = let m = rw (x .placed) at r in rw (x .placed) (x .sound, omega arith)
+
+  -- and what they come to
+  pub payload-stored : (lent : List ℕ) → places .end .0 ≤ length lent
+      → {c₁ : Coding} → c₁ ≡ referencesCoding t → {p₁ : List ℕ} → p₁ ≡ sets lent (places .references .0) (padded (stringOf (c₁ .bits) (codesOf c₁ (groupsIn octets count))))
+      → {c₂ : Coding} → c₂ ≡ widthsCoding t → {p₂ : List ℕ} → p₂ ≡ sets p₁ (places .widths .0) (padded (stringOf (c₂ .bits) (codesOf c₂ (groupsIn octets count))))
+      → {c₃ : Coding} → c₃ ≡ lengthsCoding t → {p₃ : List ℕ} → p₃ ≡ sets p₂ (places .lengths .0) (padded (stringOf (c₃ .bits) (codesOf c₃ (groupsIn octets (count - 1)) ++ (0 ∷ []))))
+      → {p₄ : List ℕ} → p₄ ≡ sets p₃ (places .values .0) (valuesPart t numbers octets count)
+      → left (stored.Span (places .end)) p₄ ≡ payloadLent (payloadIn numbers t (groupsIn octets count)) lent
+  payload-stored lent r ec₁ e₁ ec₂ e₂ ec₃ e₃ e₄ =
+      let first = size-references t numbers octets count in
+      let second = size-widths t numbers octets count in
+      let third = size-lengths t numbers octets count (x .sound .some) in
+      rw (payload-is t numbers octets count)
+      (four-stored (referencesPart t numbers octets count) (widthsPart t numbers octets count) (lengthsPart t numbers octets count) (valuesPart t numbers octets count) lent r end-is
+      (rw (ec₁, x .placed) at e₁)
+      (rw ec₂ at e₂) (rw (x .placed) (sym first))
+      (rw ec₃ at e₃) (rw (x .placed) (omega (arith, first, second)))
+      e₄ (rw (x .placed) (omega (arith, first, second, third))))

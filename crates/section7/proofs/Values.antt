@@ -1,6 +1,6 @@
 -- The values of groups, group after group. Assumes nothing.
 use mathlib.Core.Path.{_≡_, sym, ap, ap₂, _∙_}
-use mathlib.Core.List.{List, [], _∷_, _++_, map}
+use mathlib.Core.List.{List, map}
 use Prim.Native.Nat.{ℕ, _+_, _-_, _*_, _/_, _^_, _≤_, _<_}
 use native.Mathlib.Omega.{arith}
 use lib.ListN.{length, getD, take}
@@ -17,7 +17,7 @@ use Rattle.laws.specs.Digits.{bits-le}
 use Rattle.laws.specs.Extremes.{fits-width, least-lower, greatest-upper, least-greatest}
 use Rattle.writer.specs.Pen.{Ready, Moved}
 use Rattle.writer.specs.declared.Pen.{Pen}
-use Rattle.writer.proofs.Pens.{moved-none, moved-then, moved-ready}
+use Rattle.writer.proofs.Pens.{moved-then, moved-ready}
 use Rattle.section7.specs.Parts.{numbersOf, valueStringOf, valueBits, Valued, Sound, Narrow}
 use Rattle.section7.proofs.Listing.{map-listed, slice-listed, greatest-upto}
 

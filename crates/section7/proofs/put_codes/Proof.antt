@@ -1,6 +1,6 @@
 -- `section7::put_codes` meets its contract. Assumes nothing.
 use Rattle.section7.proofs.Codings.{code-low, code-is, code-fits, codes-are}
-use Prim.Native.Nat.{_-_, _≤_}
+use Prim.Native.Nat.{_-_}
 use native.Mathlib.Omega.{arith}
 use Rattle.format.specs.Layout.{groupAt}
 use Rattle.section7.specs.Parts.{codeOf}

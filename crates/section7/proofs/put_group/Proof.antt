@@ -45,7 +45,11 @@ grown-requires : tie.Need-grown-requires Inv-loop μ-loop
 grown-requires c κs = tt
 
 put-requires : tie.Need-put-requires Inv-loop μ-loop
-put-requires c κs = (rw (c .before .before .before .before .before .before .before .before .before .size .ensures .0) (put-ready (c .before .before .before .before .before .loop .inv .1) (c .before .before .before .before .before .before .before .before .before .before .before .before .pre .1) (omega arith)), (omega (arith, values-wide (c .before .before .before .before .before .before .before .before .before .before .before .before .pre .0) (numbers-below (c .before .before .before .before .before .before .before .before .before .before .before .before .args .numbers .now))), rw (c .before .before .before .before .before .before .before .before .before .size .ensures .0, c .before .grown .ensures .0, c .before .before .before .number-at .ensures) (value-fits (c .before .before .before .before .before .before .before .before .before .before .before .before .pre .0) (c .before .before .before .before .before .loop .k) (omega arith) (omega arith))))
+put-requires c κs =
+    let start = c .before .before .before .before .before .before .before .before .before .before .before .before in
+    let k = c .before .before .before .before .before .loop .k in
+    let fits = value-fits (start .pre .0) k (omega arith) (omega arith) in
+    (rw (c .before .before .before .before .before .before .before .before .before .size .ensures .0) (put-ready (c .before .before .before .before .before .loop .inv .1) (start .pre .1) (omega arith)), (omega (arith, values-wide (start .pre .0) (numbers-below (start .args .numbers .now))), rw (c .before .before .before .before .before .before .before .before .before .size .ensures .0, c .before .grown .ensures .0, c .before .before .before .number-at .ensures) fits))
 
 add-k : tie.Need-add-k Inv-loop μ-loop
 add-k c = omega arith
@@ -55,9 +59,12 @@ loop-less c = omega arith
 
 loop-again : tie.Need-loop-again Inv-loop μ-loop
 loop-again c =
-    let e : c .before .before .before .before .before .before .before .before .loop .k + 1 - c .before .before .before .before .before .before .before .before .before .before .before .before .before .before .before .args .group .start ≡ c .before .before .before .before .before .before .before .before .loop .k - c .before .before .before .before .before .before .before .before .before .before .before .before .before .before .before .args .group .start + 1 = omega arith in
-    let at : c .before .before .before .before .before .before .before .before .before .before .before .before .before .before .before .args .group .start + (c .before .before .before .before .before .before .before .before .loop .k - c .before .before .before .before .before .before .before .before .before .before .before .before .before .before .before .args .group .start) ≡ c .before .before .before .before .before .before .before .before .loop .k = omega arith in
-    (omega arith, rw e (put-more (c .before .before .before .before .before .before .before .before .loop .inv .1) (omega arith) (rw at (c .before .before .before .before .grown .ensures .0 ∙ ap (λ (n : ℕ). n - c .before .before .before .before .before .before .before .before .before .before .before .before .before .before .before .args .group .least) (c .before .before .before .before .before .before .number-at .ensures))) (rw (c .before .before .before .before .before .before .before .before .before .before .before .before .size .ensures .0) at (c .before .before .put .ensures))))
+    let g = c .before .before .before .before .before .before .before .before .before .before .before .before .before .before .before .args .group in
+    let k = c .before .before .before .before .before .before .before .before .loop .k in
+    let e : k + 1 - g .start ≡ k - g .start + 1 = omega arith in
+    let at : g .start + (k - g .start) ≡ k = omega arith in
+    let value = c .before .before .before .before .grown .ensures .0 ∙ ap (λ (n : ℕ). n - g .least) (c .before .before .before .before .before .before .number-at .ensures) in
+    (omega arith, rw e (put-more (c .before .before .before .before .before .before .before .before .loop .inv .1) (omega arith) (rw at value) (rw (c .before .before .before .before .before .before .before .before .before .before .before .before .size .ensures .0) at (c .before .before .put .ensures))))
 
 same-length : tie.Need-same-length Inv-loop μ-loop
 same-length c = c .before .loop .inv .1 .moved .long

@@ -9,7 +9,9 @@ use Rattle.section7.proofs.write_codes.Statement.{statement}
 use Rattle.section7.proofs.write_codes.Tie as tie
 
 returns : tie.Need-returns
-returns c = none-set (c .before .before .before .before .args .coding .bits) (codesOf (c .before .before .before .before .args .coding) (groupsIn (c .before .before .before .before .args .groups .now) (c .before .before .before .before .args .count))) (c .before .before .before .before .args .payload .now) (c .before .before .before .before .args .place .0) (c .if1 .taken)
+returns c =
+    let start = c .before .before .before .before in
+    none-set (start .args .coding .bits) (codesOf (start .args .coding) (groupsIn (start .args .groups .now) (start .args .count))) (start .args .payload .now) (start .args .place .0) (c .if1 .taken)
 
 pen-at-requires : tie.Need-pen-at-requires
 pen-at-requires c κs = search needs
@@ -18,13 +20,17 @@ put-codes-requires : tie.Need-put-codes-requires
 put-codes-requires c κs = ((c .before .before .before .before .before .before .pre .0, omega arith), fresh-ready (c .before .pen-at .ensures) _ (c .before .before .before .before .before .before .pre .1))
 
 finish-requires : tie.Need-finish-requires
-finish-requires c κs = part-ready (c .before .before .before .before .before .pen-at .ensures) (c .before .before .before .put-codes .ensures) (size-codes (c .before .before .before .before .before .before .before .before .before .before .args .coding) (c .before .before .before .before .before .before .before .before .before .before .args .groups .now) (c .before .before .before .before .before .before .before .before .before .before .args .count)) (c .before .before .before .before .before .before .before .before .before .before .pre .1)
+finish-requires c κs =
+    let start = c .before .before .before .before .before .before .before .before .before .before in
+    part-ready (c .before .before .before .before .before .pen-at .ensures) (c .before .before .before .put-codes .ensures) (size-codes (start .args .coding) (start .args .groups .now) (start .args .count)) (start .pre .1)
 
 same-length : tie.Need-same-length
 same-length c = search needs
 
 returns-2 : tie.Need-returns-2
-returns-2 c = part-done (c .before .before .before .before .before .before .before .before .pen-at .ensures) (c .before .before .before .before .before .before .put-codes .ensures) (size-codes (c .before .before .before .before .before .before .before .before .before .before .before .before .before .args .coding) (c .before .before .before .before .before .before .before .before .before .before .before .before .before .args .groups .now) (c .before .before .before .before .before .before .before .before .before .before .before .before .before .args .count)) (c .before .before .before .before .before .before .before .before .before .before .before .before .before .pre .1) (λ k. omega (arith, c .before .before .before .before .before .before .before .before .before .before .before .slice-known .given k)) (c .before .before .finish .ensures)
+returns-2 c =
+    let start = c .before .before .before .before .before .before .before .before .before .before .before .before .before in
+    part-done (c .before .before .before .before .before .before .before .before .pen-at .ensures) (c .before .before .before .before .before .before .put-codes .ensures) (size-codes (start .args .coding) (start .args .groups .now) (start .args .count)) (start .pre .1) (λ k. omega (arith, c .before .before .before .before .before .before .before .before .before .before .before .slice-known .given k)) (c .before .before .finish .ensures)
 
 pub write-codes-spec : {M : Type 1} → statement M
 write-codes-spec =
