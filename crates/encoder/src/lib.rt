@@ -57,15 +57,17 @@ fn store_summary(template: Template, octets: OctetPlace, summary: &mut [u8])
     requires { ⌜ (summarySize ≤ length (now summary)) × (octets .0 < 2 ^ 32) ⌝ }
     ensures { λ _. ⌜ now (summary .exit) ≡ inFours (summaryOf template (octets .0)) over now (summary .entry) ⌝ }
 {
+    let widths = template.widths;
+    let lengths = template.lengths;
     let numbers = [
         template.width as u32,
         template.groups,
-        template.widths.reference as u32,
-        template.widths.bits as u32,
-        template.lengths.reference,
-        template.lengths.increment as u32,
-        template.lengths.last,
-        template.lengths.bits as u32,
+        widths.reference as u32,
+        widths.bits as u32,
+        lengths.reference,
+        lengths.increment as u32,
+        lengths.last,
+        lengths.bits as u32,
         template.groups,
         octets.0 as u32,
     ];
@@ -80,7 +82,10 @@ fn pack_groups(
     count: usize,
     payload: &mut [u8],
     summary: &mut [u8],
-) -> Packed {
+) -> Packed
+    requires { ⌜ Packable greatest (numbersIn (now numbers)) (now groups) count (now summary) ⌝ }
+    ensures { λ r. ⌜ record { answer = r; payload = now (payload .exit); summary = now (summary .exit) } ≡ rest (numbersIn (now (numbers .entry))) (groupsIn (now (groups .entry)) count) (now (payload .entry)) (now (summary .entry)) ⌝ }
+{
     let template = coding::template_of(greatest, groups, count);
     match section7::write_section7(template, numbers, groups, count, payload) {
         Stored::Refused(refusal) => Packed::Refused(refusal),
@@ -98,7 +103,9 @@ pub fn pack(
     groups: &mut [u8],
     payload: &mut [u8],
     summary: &mut [u8],
-) -> Packed {
+) -> Packed
+    ensures { λ r. ⌜ record { answer = r; groups = now (groups .exit); payload = now (payload .exit); summary = now (summary .exit) } ≡ pack lookahead (numbersIn (now (numbers .entry))) (now (groups .entry)) (now (payload .entry)) (now (summary .entry)) ⌝ }
+{
     let greatest = numbers::greatest_of(numbers);
     if grouping::is_refused(numbers, greatest, lookahead) {
         return Packed::Refused(Refusal::Numbers);
