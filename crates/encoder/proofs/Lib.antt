@@ -1,2 +1,4 @@
 pub mod Storing
 pub mod Resting
+pub mod Meaning
+pub mod Parcelling

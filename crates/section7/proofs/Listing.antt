@@ -15,7 +15,7 @@ use Rattle.laws.specs.Stores.{flat-append}
 
 module _ {A : Type 0} where
   pub map-listed : {B : Type 0} (g : A → B) (n : ℕ) (f : ℕ → A) → map g (listed n f) ≡ listed n (λ i. g (f i))
-  unfolding map listed
+  unfolding listed
   map-listed g zero f = refl
   map-listed {B} g (suc n) f = ap (λ (l : List B). g (f 0) ∷ l) (map-listed g n (λ i. f (suc i)))
 

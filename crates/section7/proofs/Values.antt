@@ -10,7 +10,7 @@ use Rattle.format.specs.Bits.{stringOf, numberAt}
 use Rattle.format.specs.Layout.{numbersIn, groupAt}
 use Rattle.format.specs.Grouping.{widthOf}
 use Rattle.format.specs.declared.Group.{Group}
-use Rattle.laws.specs.Lists.{length-map, total-next, total-upto, joined-next, length-joined, total-ext}
+use Rattle.laws.specs.Lists.{length-listed, total-next, total-upto, joined-next, length-joined, total-ext}
 use Rattle.laws.specs.Bits.{bit-lt, number-lt}
 use Rattle.laws.specs.Strings.{length-string}
 use Rattle.laws.specs.Digits.{bits-le}
@@ -39,8 +39,18 @@ module _ {numbers : List ℕ} {g : Group} (v : Valued numbers g) where
   size-own : length (numbersOf numbers g) ≡ g .length
   size-own = length-slice (g .start) (g .start + g .length) numbers (v .within) ∙ omega arith
 
+  -- the string of its values, as it is put
+  pub values-are : valueStringOf numbers g ≡ stringOf (g .width) (listed (g .length) (λ i. getD numbers (g .start + i) 0 - g .least))
+  values-are =
+      ap (stringOf (g .width))
+      (ap (map (λ (number : ℕ). number - g .least)) (slice-listed numbers (g .start) (g .length) (v .within))
+      ∙ map-listed (λ (number : ℕ). number - g .least) (g .length) (λ i. getD numbers (g .start + i) 0))
+
   pub size-values : length (valueStringOf numbers g) ≡ valueBits g
-  size-values = length-string (g .width) (map (λ number. number - g .least) (numbersOf numbers g)) ∙ ap (λ (n : ℕ). n * g .width) (length-map (λ (number : ℕ). number - g .least) (numbersOf numbers g) ∙ size-own)
+  size-values =
+      ap length values-are
+      ∙ length-string (g .width) (listed (g .length) (λ i. getD numbers (g .start + i) 0 - g .least))
+      ∙ ap (λ (n : ℕ). n * g .width) (length-listed (g .length) (λ i. getD numbers (g .start + i) 0 - g .least))
 
   own-at : (k : ℕ) → g .start ≤ k → k < g .start + g .length → getD (numbersOf numbers g) (k - g .start) 0 ≡ getD numbers k 0
   own-at k h l =
@@ -62,13 +72,6 @@ module _ {numbers : List ℕ} {g : Group} (v : Valued numbers g) where
 
   pub least-upto : g .least ≤ greatest numbers
   least-upto = omega (arith, v .least, least-greatest (numbersOf numbers g), own-greatest)
-
-  -- the string of its values, as it is put
-  pub values-are : valueStringOf numbers g ≡ stringOf (g .width) (listed (g .length) (λ i. getD numbers (g .start + i) 0 - g .least))
-  values-are =
-      ap (stringOf (g .width))
-      (ap (map (λ (number : ℕ). number - g .least)) (slice-listed numbers (g .start) (g .length) (v .within))
-      ∙ map-listed (λ (number : ℕ). number - g .least) (g .length) (λ i. getD numbers (g .start + i) 0))
 
   pub values-wide : greatest numbers < 2 ^ 32 → g .width ≤ 32
   unfolding widthOf

@@ -128,8 +128,9 @@ fn write_values(numbers: &[u8], groups: &[u8], count: usize, place: OctetPlace, 
     requires { ⌜ Sound (numbersIn (now numbers)) (now groups) count × (place .0 + roundedUp (total count (λ k. valueBits (groupAt (now groups) k))) ≤ length (now payload)) ⌝ }
     ensures { λ _. ⌜ now (payload .exit) ≡ sets (now (payload .entry)) (place .0) (padded (joined count (λ k. valueStringOf (numbersIn (now (numbers .entry))) (groupAt (now (groups .entry)) k)))) ⌝ }
 {
-    let pen = put_values(numbers, groups, count, pen_at(place), payload);
-    writer::finish(pen, payload);
+    let start = pen_at(place);
+    let end = put_values(numbers, groups, count, start, payload);
+    writer::finish(end, payload);
 }
 
 // The bits of all values.

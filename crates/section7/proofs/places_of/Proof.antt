@@ -8,6 +8,7 @@ use borrow.Author.Needs.{needs}
 use Rattle.section7.proofs.places_of.Statement.{statement}
 use Rattle.section7.proofs.places_of.Tie as tie
 
+-- the octets of each field
 first : (c : tie.After-span) → (c .span .result .0 ≡ roundedUp (c .before .before .args .count * c .before .before .args .template .width)) × (c .span .result .0 ≤ 16777216)
 first c = spanned (c .before .small .ensures) (c .span .ensures) (c .before .before .pre .0) (c .before .before .pre .1)
 

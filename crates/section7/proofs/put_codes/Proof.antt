@@ -1,4 +1,4 @@
--- `section7::put_codes` meets its contract. Assumes nothing.
+-- `section7::put_codes` meets its contract: after k turns k codes are put. Assumes nothing.
 use Rattle.section7.proofs.Codings.{code-low, code-is, code-fits, codes-are}
 use Prim.Native.Nat.{_-_}
 use native.Mathlib.Omega.{arith}

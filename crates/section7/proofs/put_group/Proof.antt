@@ -1,4 +1,4 @@
--- `section7::put_group` meets its contract. Assumes nothing.
+-- `section7::put_group` meets its contract: at number k those from the start up to it are put. Assumes nothing.
 use mathlib.Core.Path.{_≡_, ap, _∙_}
 use Prim.Native.Nat.{ℕ, _+_, _-_, _≤_}
 use Rattle.section7.proofs.Values.{value-low, value-fits, values-are, values-wide, numbers-below}

@@ -1,4 +1,4 @@
--- `section7::put_values` meets its contract. Assumes nothing.
+-- `section7::put_values` meets its contract: after k turns the values of k groups are put. Assumes nothing.
 use mathlib.Core.Path.{_≡_}
 use Prim.Native.Nat.{_-_, _≤_}
 use native.Mathlib.Omega.{arith}

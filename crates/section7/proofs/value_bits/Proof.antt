@@ -1,4 +1,4 @@
--- `section7::value_bits` meets its contract. Assumes nothing.
+-- `section7::value_bits` meets its contract: a group has at most 4194304 values of 32 bits. Assumes nothing.
 use mathlib.Core.Path.{_≡_, refl}
 use Prim.Native.Nat.{_-_, _*_, _≤_}
 use native.Mathlib.Omega.{arith}

@@ -1,6 +1,6 @@
 -- `section7::write_lengths` meets its contract. Assumes nothing.
 use native.Mathlib.Omega.{arith}
-use lib.Pow.{pow-pos}
+use lib.Pow.{pow-mono}
 use Rattle.section7.proofs.Aligned.{none-set, fresh-ready, part-ready, part-done}
 use mathlib.Core.List.{[], _∷_, _++_}
 use Prim.Native.Nat.{_-_}
@@ -30,7 +30,7 @@ put-codes-requires c κs =
 put-requires : tie.Need-put-requires
 put-requires c κs =
     let start = c .before .before .before .before .before .before .before .before .before .before in
-    (last-ready (start .args .coding) (start .args .groups .now) (start .args .count) (start .pre .0) (fresh-ready (c .before .before .before .before .before .pen-at .ensures) _ (start .pre .2)) (c .before .before .before .put-codes .ensures), (start .pre .1 .top, omega (arith, pow-pos (start .args .coding .bits))))
+    (last-ready (start .args .coding) (start .args .groups .now) (start .args .count) (start .pre .0) (fresh-ready (c .before .before .before .before .before .pen-at .ensures) _ (start .pre .2)) (c .before .before .before .put-codes .ensures), (start .pre .1 .top, omega (arith, pow-mono {i = 1} {j = start .args .coding .bits} (omega arith))))
 
 finish-requires : tie.Need-finish-requires
 finish-requires c κs =

@@ -13,11 +13,15 @@ value-bits-requires c κs = groups-narrow (c .before .before .before .pre .0) (c
 places-of-requires : tie.Need-places-of-requires
 places-of-requires c κs = (c .before .before .before .before .pre .0 .few, width-top (c .before .before .before .before .pre .0) (c .before .before .before .before .pre .1) (numbers-below (c .before .before .before .before .args .numbers .now)), widths-top (c .before .before .before .before .pre .0) (c .before .before .before .before .pre .1), lengths-top (c .before .before .before .before .pre .0) (c .before .before .before .before .pre .1), omega (arith, c .before .before .before .before .pre .0 .few))
 
-known : (c : tie.After-places-of) → Placed (c .before .before .before .before .before .args .template) (numbersIn (c .before .before .before .before .before .args .numbers .now)) (c .before .before .before .before .before .args .groups .now) (c .before .before .before .before .before .args .count) (c .places-of .result)
+abbrev start : tie.After-places-of → tie.Start
+start c = c .before .before .before .before .before
+
+-- what the parts ask, and what they come to, follows from what is known once the places are
+known : (c : tie.After-places-of) → Placed (start c .args .template) (numbersIn (start c .args .numbers .now)) (start c .args .groups .now) (start c .args .count) (c .places-of .result)
 known c = record {
-  sound = c .before .before .before .before .before .pre .0;
-  coded = c .before .before .before .before .before .pre .1;
-  below = numbers-below (c .before .before .before .before .before .args .numbers .now);
+  sound = start c .pre .0;
+  coded = start c .pre .1;
+  below = numbers-below (start c .args .numbers .now);
   placed = rw (c .before .value-bits .ensures .0) at (c .places-of .ensures);
 }
 
