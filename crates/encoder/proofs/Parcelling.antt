@@ -20,12 +20,22 @@ use Rattle.format.specs.declared.Refusal.{Refusal}
 use Rattle.format.specs.declared.Refusal.the-variants.{Room, Numbers}
 use Rattle.format.specs.declared.Template.{Template}
 use Rattle.laws.specs.First.{Gives, Clear, decides, clears, passed, first-joined, first-through, tests}
+use Rattle.laws.specs.Lists.{length-over}
+use Rattle.laws.specs.Stores.{length-flat}
 use Rattle.laws.specs.Groups.{groups-all, groups-none-empty, length-records}
 use Rattle.grouping.specs.Rule.{groupsLent}
 use Rattle.grouping.proofs.Filling.{groups-some}
 use Rattle.encoder.specs.Whole.{groupOctets, templateIn, octetsIn, Packable, Rest, rest}
-use Rattle.encoder.proofs.Storing.{groups-in-fours}
+use Rattle.encoder.proofs.Storing.{group-size, groups-in-fours}
 use Rattle.encoder.proofs.Meaning.{template-meant, payload-meant, read-back, sound, payload-short}
+
+abbrev isGroups : Grouped → ℕ
+isGroups (grouped.Groups n) = 1
+isGroups (grouped.Refused r) = 0
+
+abbrev counts : Grouped → ℕ
+counts (grouped.Groups n) = n
+counts (grouped.Refused r) = 0
 
 module _ (k : ℕ) (numbers lent payload summary : List ℕ) where
   abbrev records : List Group
@@ -113,11 +123,41 @@ module _ (k : ℕ) (numbers lent payload summary : List ℕ) where
 
     module _ {count : ℕ} (d : answer ≡ grouped.Groups count) where
       listed : (length records ≤ wholeOnes groupSize lent) × (count ≡ length records) × (groups ≡ all)
-      listed = ?
+      listed =
+          let p = passed (λ r. left (grouped.Refused r) some) _ _ e (λ r f. absurd (omega (arith, ap isGroups (sym d ∙ ap (λ (x : Left Grouped). x .answer) f)))) in
+          (omega (arith, tests, p .0 .0), ap counts (sym d ∙ ap (λ (x : Left Grouped). x .answer) (p .1)), ap (λ (x : Left Grouped). x .buffer) (p .1))
 
-      pub packable : {top : ℕ} → top ≡ greatest numbers → top < 2 ^ 32 → Packable top numbers groups count summary
-      packable et h = ?
+      module _ (below : greatest numbers < 2 ^ 32) where
+        short : length numbers ≤ 4194304
+        short = omega (arith, tests, c .1 .0)
 
-      pub packed-groups : {r : Packed} {payload′ summary′ : List ℕ} → record { answer = r; payload = payload′; summary = summary′ } ≡ rest numbers (groupsIn groups count) payload summary
-          → record { answer = r; groups = groups; payload = payload′; summary = summary′ } ≡ pack k numbers lent payload summary
-      packed-groups f = ?
+        -- the lent list gives the records back
+        back : groupsIn groups (length records) ≡ records
+        back = rw (listed .2 ∙ stored-meant records) (read-back numbers (groups01 k numbers) (groups-all widthOf 0 k numbers) (groups-none-empty widthOf 0 k numbers) short below _)
+
+        there : length records * groupSize ≤ length groups
+        there =
+            let n = length-flat groupOctets groupSize group-size records in
+            let m : length records * groupSize ≤ length lent = le-trans (mul-le-mul-right groupSize (listed .0)) (div-mul-le-self (length lent) groupSize) in
+            rw (listed .2, length-over (flatMap groupOctets records) lent (omega arith)) m
+
+        some-groups : 0 < length (groups01 k numbers)
+        some-groups = groups-some widthOf 0 k numbers (omega (arith, tests, c .0))
+
+        pub packable : {top : ℕ} → top ≡ greatest numbers → Packable top numbers groups count summary
+        packable et =
+            rw (listed .1)
+            (record {
+              sound = sound numbers (groups01 k numbers) (groups-all widthOf 0 k numbers) (groups-none-empty widthOf 0 k numbers) short below groups back some-groups there;
+              greatest = et;
+              short = payload-short numbers (groups01 k numbers) (groups-all widthOf 0 k numbers) (groups-none-empty widthOf 0 k numbers) short below groups back some-groups there;
+              room = room;
+            })
+
+        pub packed-groups : {r : Packed} {payload′ summary′ : List ℕ} → record { answer = r; payload = payload′; summary = summary′ } ≡ rest numbers (groupsIn groups count) payload summary
+            → record { answer = r; groups = groups; payload = payload′; summary = summary′ } ≡ pack k numbers lent payload summary
+        packed-groups f =
+            ap (with-groups groups) f
+            ∙ ap (λ (rs : List Group). with-groups groups (rest numbers rs payload summary)) (ap (groupsIn groups) (listed .1) ∙ back)
+            ∙ ap (λ (a : Grouped). after (left a groups)) (sym d)
+            ∙ ap after e ∙ whole c room

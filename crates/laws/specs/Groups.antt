@@ -94,10 +94,11 @@ module _ (numbers : List ℕ) where
   first-own : (start : ℕ) (group : List ℕ) (groups : List (List ℕ)) → group ++ allOf groups ≡ drop start numbers
       → (slice start (start + length group) numbers ≡ group) × (allOf groups ≡ drop (start + length group) numbers) × (start + length group ≤ start + length (drop start numbers))
   first-own start group groups e =
-      let n : start + length group - start ≡ length group = omega arith in
-      (sym (take-of-drop start (start + length group) numbers) ∙ ap₂ (λ (m : ℕ) (l : List ℕ). take m l) n (sym e) ∙ take-at group (allOf groups) (length group) refl,
-      sym (drop-at group (allOf groups) (length group) refl) ∙ ap (drop (length group)) e ∙ drop-drop (length group) start numbers,
-      omega (arith, ap length e, length-append group (allOf groups)))
+      let n : start + length group - start ≡ length group = omega arith in (
+        sym (take-of-drop start (start + length group) numbers) ∙ ap₂ (λ (m : ℕ) (l : List ℕ). take m l) n (sym e) ∙ take-at group (allOf groups) (length group) refl,
+        sym (drop-at group (allOf groups) (length group) refl) ∙ ap (drop (length group)) e ∙ drop-drop (length group) start numbers,
+        omega (arith, ap length e, length-append group (allOf groups)),
+      )
 
   pub record-of : (start : ℕ) (groups : List (List ℕ)) → allOf groups ≡ drop start numbers → NoneEmpty groups → start ≤ length numbers
       → (d : Group) (j : ℕ) → j < length groups → RecordOf numbers (getD groups j []) (getD (recordsFrom start groups) j d)

@@ -61,10 +61,11 @@ times-requires-2 c κs = (omega arith, c .before .width .ensures .1)
 look-ahead-requires : tie.Need-look-ahead-requires Inv-loop μ-loop
 look-ahead-requires c κs =
     let limits = c .before .before .before .before .before .before .before .before .before .before .before .pre .0 in
-    let inv = c .before .before .before .before .before .before .loop .inv in
-    (record { few = limits .few; ahead = limits .ahead; near = limits .near; added = omega arith },
-    record { there = omega (arith, c .before .before .before .before .before .before .before .before .before .count-of .ensures); flat = inv .flat; within = inv .there; near = inv .near },
-    omega arith)
+    let inv = c .before .before .before .before .before .before .loop .inv in (
+      record { few = limits .few; ahead = limits .ahead; near = limits .near; added = omega arith },
+      record { there = omega (arith, c .before .before .before .before .before .before .before .before .before .count-of .ensures); flat = inv .flat; within = inv .there; near = inv .near },
+      omega arith,
+    )
 
 group-of-requires : tie.Need-group-of-requires Inv-loop μ-loop
 group-of-requires c κs = (omega arith, omega arith, c .before .before .before .before .before .before .before .before .loop .inv .narrow)
