@@ -6,12 +6,16 @@ use Rattle.format.specs.Refusals.{Left, left, refusalNumber, unpackedNumber, un
 use Rattle.format.specs.declared.Refusal.{Refusal}
 use Rattle.format.specs.Unpacking.{unpack52}
 use Rattle.format.specs.Differences.{unpack53}
+use Rattle.format.specs.Packing.{Parcelled}
+use Rattle.format.specs.declared.OctetPlace.{OctetPlace}
+use Rattle.format.specs.declared.Packed.{Packed}
+use Rattle.format.specs.declared.Packed.the-variants as packed
 use Rattle.format.specs.declared.Template.{Template}
 use Rattle.format.specs.declared.Differencing.{Differencing}
 use Rattle.format.specs.declared.Unpacked.{Unpacked}
 use Rattle.format.specs.declared.Unrolled.{Unrolled}
 use Rattle.format.specs.declared.Unrolled.the-variants as unrolled
-use Rattle.cleatmow.specs.Calls.{called}
+use Rattle.cleatmow.specs.Calls.{called, calledPack}
 
 called-is : {Answer : Type 0} (number : Answer → ℕ) (outcome : Left Answer) {answer : Answer} {buffer : List ℕ} {n : ℕ}
     → left answer buffer ≡ outcome → n ≡ number answer → left n buffer ≡ called number outcome
@@ -30,3 +34,13 @@ module _ (declared : ℕ) (payload lent : List ℕ) (asked : Template) {t : Temp
 
   pub spatial-called : (d : Differencing) → left answer buffer ≡ unpack53 t d declared payload lent → left n buffer ≡ called unpackedNumber (unpack53 asked d declared payload lent)
   spatial-called d e = called-is unpackedNumber (unpack53 asked d declared payload lent) (rw et at e) en
+
+module _ (outcome : Parcelled) {answer : Packed} {groups payload summary : List ℕ}
+    (e : record { answer = answer; groups = groups; payload = payload; summary = summary } ≡ outcome) where
+  pub pack-done : {t : Template} {octets : OctetPlace} → answer ≡ packed.Payload t octets
+      → record { number = 0; groups = groups; payload = payload; summary = summary } ≡ calledPack outcome
+  pack-done d = rw (← e, d)
+
+  pub pack-refused : {r : Refusal} {n : ℕ} → answer ≡ packed.Refused r → n ≡ refusalNumber r
+      → record { number = n; groups = groups; payload = payload; summary = summary } ≡ calledPack outcome
+  pack-refused d en = rw (← e, d, en)

@@ -5,7 +5,9 @@ ghost use Rattle.format.specs.Refusals.{refusalNumber, unpackedNumber, unrolled
 ghost use Rattle.format.specs.Unpacking.{unpack52};
 ghost use Rattle.format.specs.Differences.{unpack53};
 ghost use Rattle.format.specs.RunLength.{runLength};
-ghost use Rattle.cleatmow.specs.Calls.{called, givenTemplate, givenDifferencing};
+ghost use Rattle.format.specs.Layout.{numbersIn};
+ghost use Rattle.format.specs.Packing.{pack};
+ghost use Rattle.cleatmow.specs.Calls.{called, givenTemplate, givenDifferencing, calledPack};
 use format::Differencing;
 use format::Lengths;
 use format::Packed;
@@ -178,7 +180,7 @@ pub extern "C" fn cleatmow_pack(
     payload: &mut [u8],
     summary: &mut [u8],
 ) -> u32
-    ensures { λ r. ⌜ packCall r (now (groups .exit)) (now (payload .exit)) (now (summary .exit)) ≡ calledPack (pack lookahead (numbersIn (now (numbers .entry))) (now (groups .entry)) (now (payload .entry)) (now (summary .entry))) ⌝ }
+    ensures { λ r. ⌜ record { number = r; groups = now (groups .exit); payload = now (payload .exit); summary = now (summary .exit) } ≡ calledPack (pack lookahead (numbersIn (now (numbers .entry))) (now (groups .entry)) (now (payload .entry)) (now (summary .entry))) ⌝ }
 {
     match encoder::pack(lookahead, numbers, groups, payload, summary) {
         Packed::Payload(_, _) => 0,
