@@ -108,7 +108,7 @@ pub fn gust_differences(order: u8, points: u32) -> ComplexMap {
 
 /// Numbers up to 16,383 that walk up and down. How far a step goes changes every few dozen points: calm stretches do
 /// not change at all, the roughest change by up to 512.
-fn gust_numbers(points: u32) -> Vec<u32> {
+pub fn gust_numbers(points: u32) -> Vec<u32> {
     const GREATEST: i64 = 16_383;
     let mut chance = Numbers::new(5_200);
     let (mut number, mut rough) = (GREATEST / 4, 4);
