@@ -1,7 +1,7 @@
-//! Sample maps for benchmarks and comparisons: public for tests/ and for the programs of oracle/, and hidden from the
+//! Sample maps and lists for benchmarks and comparisons: public for tests/ and for the programs of oracle/, and hidden from the
 //! documentation, since no host needs them. They are the same at every run and on every machine.
 
-use crate::{Differences, Point, Template};
+use crate::{Differences, Point, Template, GREATEST_NUMBER};
 
 /// A run-length map: what a call is given, and the levels that it must answer.
 pub struct RunLengthMap {
@@ -129,6 +129,45 @@ pub fn gust_numbers(points: u32) -> Vec<u32> {
     }
     numbers.truncate(points as usize);
     numbers
+}
+
+/// A list to pack, hard to group: each number is one more than the last.
+pub fn rising(numbers: u32) -> Vec<u32> {
+    (0..numbers).collect()
+}
+
+/// A list to pack, hard to group: it rises to 999 and falls back to 0.
+pub fn sawtooth(numbers: u32) -> Vec<u32> {
+    (0..numbers).map(|place| place % 1_000).collect()
+}
+
+/// A list to pack, hard to group: flat patches of up to 131,072 numbers, most of them much shorter.
+pub fn patches(numbers: u32) -> Vec<u32> {
+    let mut chance = Numbers::new(17);
+    let mut list = Vec::new();
+    while list.len() < numbers as usize {
+        let longest = 2 << chance.below(17);
+        let (level, length) = (chance.below(256) as u32, 1 + chance.below(longest) as usize);
+        list.resize(list.len() + length, level);
+    }
+    list.truncate(numbers as usize);
+    list
+}
+
+/// A list to pack, hard to group: 0 and the greatest number by turns.
+pub fn alternating(numbers: u32) -> Vec<u32> {
+    (0..numbers).map(|place| place % 2 * GREATEST_NUMBER).collect()
+}
+
+/// A list to pack, hard to group: each power of two, from 1 to 2^30, over and over.
+pub fn doubling(numbers: u32) -> Vec<u32> {
+    (0..numbers).map(|place| 1 << (place % 31)).collect()
+}
+
+/// A list to pack, hard to group: one number in fifty, by chance, is any, and all others are 5.
+pub fn spikes(numbers: u32) -> Vec<u32> {
+    let mut chance = Numbers::new(50);
+    (0..numbers).map(|_| if chance.below(50) == 0 { chance.below(1 << 31) as u32 } else { 5 }).collect()
 }
 
 impl ComplexMap {
