@@ -110,14 +110,14 @@ fn a_list_of_points_is_two_requests() {
     assert_eq!((requests, largest), (2, 8_000 * size_of::<cleatmow::Point>()));
 }
 
-/// Of a list above the limit as much is handed on as shows that it is, and nothing is lent.
+/// Of a list above the limit as much is handed on as shows that it is, and no group list is lent.
 #[test]
-fn a_list_above_the_limit_is_one_request() {
+fn what_packing_asks_for() {
     let most = MOST_NUMBERS as usize;
     for more in [1, 2, 1_000_000] {
         let list = vec![0; most + more];
-        let request = asked(|| assert_eq!(pack(&list, 8), Err(Refusal::Numbers)));
-        assert_eq!(request, (1, (most + 1) * NUMBER_OCTETS), "{more} more");
+        let (_, largest) = asked(|| assert_eq!(pack(&list, 8), Err(Refusal::Numbers)));
+        assert_eq!(largest, (most + 1) * NUMBER_OCTETS, "{more} more");
     }
     // The group list is the largest that is lent; what is answered has the size that it has.
     let list: Vec<u32> = (0..1_000).collect();
