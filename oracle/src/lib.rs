@@ -38,6 +38,7 @@ mod doors {
 }
 
 pub mod dice;
+pub mod packing;
 pub mod runs;
 pub mod unpacking;
 
