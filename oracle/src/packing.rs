@@ -46,7 +46,7 @@ pub fn coded(numbers: &[u32], lookahead: u32) -> Coded {
         0..=255 => step,
         _ => (1..=255).filter(|divisor| step.is_multiple_of(*divisor)).max().expect("1 divides"),
     };
-    let code = |difference: u32| if increment == 0 { 0 } else { difference / increment };
+    let code = |difference: u32| difference.checked_div(increment).unwrap_or(0);
     let length_bits = bits(code(differences().max().unwrap_or(0)));
 
     let codes: Vec<u32> = differences().map(code).chain([0]).collect();
@@ -122,6 +122,21 @@ fn field(numbers: impl Iterator<Item = (u32, u32)>) -> Vec<u8> {
     field.octets
 }
 
+/// A group as the C call leaves it in the group list: start, length, least number, width.
+pub fn group_octets(group: &Group) -> Vec<u8> {
+    [group.start, group.length, group.least, group.width].map(u32::to_be_bytes).concat()
+}
+
+/// A packing's ten numbers as the C call leaves them in the summary.
+pub fn summary_octets(template: &Template, group_count: usize, payload_length: usize) -> Vec<u8> {
+    let Template { number_width, groups, width_reference, width_bits, .. } = *template;
+    let Template { length_reference, length_increment, last_length, length_bits, .. } = *template;
+    let widths = [number_width.into(), groups, width_reference.into(), width_bits.into()];
+    let lengths = [length_reference, length_increment.into(), last_length, length_bits.into()];
+    let counts = [group_count as u32, payload_length as u32];
+    [&widths[..], &lengths, &counts].concat().into_iter().flat_map(u32::to_be_bytes).collect()
+}
+
 /// The shapes of made lists.
 #[derive(Clone, Copy, Debug, PartialEq, Eq)]
 pub enum Shape {
@@ -190,7 +205,7 @@ impl Shape {
                     (here + dice.below(4)).min(range - 1)
                 }
                 Self::Sawtooth => place % period * (range / period + 1) % range,
-                Self::Powers if period % 2 == 0 => (1 << (place % bits)) % range,
+                Self::Powers if period.is_multiple_of(2) => (1 << (place % bits)) % range,
                 Self::Powers => (1 << dice.below(bits)) % range,
                 Self::Equal if period < 8 && dice.once_in(period) => dice.below(range),
                 Self::Equal => here,

@@ -5,10 +5,12 @@ use std::fmt::{self, Display, Formatter};
 use cleatmow::{
     GROUP_OCTETS, NUMBER_OCTETS, Packing, Point, SUMMARY_OCTETS, numbers_as_octets, pack_into, unpack_complex,
 };
-use oracle::Outcome::{Answer, Panicked, Refused};
+use oracle::Outcome::{self, Answer, Panicked, Refused};
 use oracle::dice::Dice;
-use oracle::packing::{Coded, GREATEST_LOOKAHEAD, GREATEST_NUMBER, MOST_NUMBERS, Shape, coded, is_refused, patches};
-use oracle::{Outcome, Template};
+use oracle::packing::{
+    Coded, GREATEST_LOOKAHEAD, GREATEST_NUMBER, MOST_NUMBERS, Shape, coded, group_octets, is_refused, patches,
+    summary_octets,
+};
 
 use crate::tally::{Asked, Tally, Verdict};
 use crate::words;
@@ -138,7 +140,14 @@ fn ours_differs(input: &Input, document: Option<&Packing>) -> Option<String> {
             if slots < packing.groups.len() || payload_lent < packing.payload.len() {
                 (10, [first, Vec::new(), Vec::new()])
             } else {
-                (0, [first, packing.payload.clone(), summary_octets(packing)])
+                (
+                    0,
+                    [
+                        first,
+                        packing.payload.clone(),
+                        summary_octets(&packing.template, packing.groups.len(), packing.payload.len()),
+                    ],
+                )
             }
         }
     };
@@ -154,19 +163,6 @@ fn ours_differs(input: &Input, document: Option<&Packing>) -> Option<String> {
         }
     }
     None
-}
-
-fn group_octets(group: &cleatmow::Group) -> Vec<u8> {
-    [group.start, group.length, group.least, group.width].map(u32::to_be_bytes).concat()
-}
-
-pub fn summary_octets(packing: &Packing) -> Vec<u8> {
-    let Template { number_width, groups, width_reference, width_bits, .. } = packing.template;
-    let Template { length_reference, length_increment, last_length, length_bits, .. } = packing.template;
-    let widths = [number_width.into(), groups, width_reference.into(), width_bits.into()];
-    let lengths = [length_reference, length_increment.into(), last_length, length_bits.into()];
-    let counts = [packing.groups.len() as u32, packing.payload.len() as u32];
-    [&widths[..], &lengths, &counts].concat().into_iter().flat_map(u32::to_be_bytes).collect()
 }
 
 fn unpacks_to(packing: &Packing, numbers: &[u32]) -> bool {
