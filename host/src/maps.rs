@@ -106,7 +106,7 @@ pub fn gust_differences(order: u8, points: u32) -> ComplexMap {
     ComplexMap::packed(&numbers, &packed, descriptors, Some(Differences { order, descriptor_octets: 2 }))
 }
 
-/// Numbers up to 16,383 that walk up and down. How far a step goes changes every few dozen points: calm stretches do
+/// The numbers of the gusts: they walk up and down to 16,383. How far a step goes changes every few dozen points: calm stretches do
 /// not change at all, the roughest change by up to 512.
 pub fn gust_numbers(points: u32) -> Vec<u32> {
     const GREATEST: i64 = 16_383;
@@ -168,6 +168,13 @@ pub fn doubling(numbers: u32) -> Vec<u32> {
 pub fn spikes(numbers: u32) -> Vec<u32> {
     let mut chance = Numbers::new(50);
     (0..numbers).map(|_| if chance.below(50) == 0 { chance.below(1 << 31) as u32 } else { 5 }).collect()
+}
+
+/// A list to pack, hard to group at lookahead 29: the greatest number at every 29th place, and 0 and 1 by turns between.
+/// In a group of width 31 a look-ahead of 29 numbers is dear enough only with two bits each, so at every place it is looked
+/// ahead as far as the next greatest number.
+pub fn comb(numbers: u32) -> Vec<u32> {
+    (0..numbers).map(|place| if place % 29 == 0 { GREATEST_NUMBER } else { place % 2 }).collect()
 }
 
 impl ComplexMap {
