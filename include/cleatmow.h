@@ -81,9 +81,9 @@ enum cleatmow_refusal {
 #define CLEATMOW_GROUP_OCTETS 16
 
 /*
- * The size of a packing's summary in octets: ten numbers of four octets each, big-endian. They are the number width; the
- * groups; the width reference and the width bits; the length reference, the increment, the last length and the length
- * bits; then the group count, which is the groups once more, and the payload length in octets.
+ * The size of a packing's summary in octets: ten numbers of four octets each, big-endian. They are the number width;
+ * the groups; the width reference and the width bits; the length reference, the increment, the last length and the
+ * length bits; then the group count, which is the groups once more, and the payload length in octets.
  */
 #define CLEATMOW_SUMMARY_OCTETS 40
 
@@ -166,8 +166,9 @@ uint32_t cleatmow_run_length(
     uint8_t *levels, size_t levels_len);
 
 /*
- * Grouping and packing: makes the payload of a map under template 5.2 of a list of numbers. cleatmow_unpack_complex reads
- * the list back with the template numbers of the summary, CLEATMOW_PACKING_SPLITTING and CLEATMOW_PACKING_MISSING.
+ * Grouping and packing: makes the payload of a map under template 5.2 of a list of numbers. cleatmow_unpack_complex
+ * reads the list back with the template numbers of the summary, CLEATMOW_PACKING_SPLITTING and
+ * CLEATMOW_PACKING_MISSING.
  *
  * lookahead    k, how many numbers are looked at before a group is ended: 1 to CLEATMOW_GREATEST_LOOKAHEAD
  * numbers      the list, 1 to CLEATMOW_MOST_NUMBERS numbers of up to CLEATMOW_GREATEST_NUMBER, CLEATMOW_NUMBER_OCTETS
@@ -175,15 +176,15 @@ uint32_t cleatmow_run_length(
  * numbers_len  how many octets the list has
  * groups       lent: the group list, CLEATMOW_GROUP_OCTETS for each group. There are at most as many groups as numbers
  * groups_len   how many octets are lent; more than the groups take is fine
- * payload      lent: room for the octets of Section 7 after its five-octet header. Ten octets a number and four more are
- *              always enough
+ * payload      lent: room for the octets of Section 7 after its five-octet header. Ten octets a number and four more
+ *              are always enough
  * payload_len  how many octets are lent; more than the payload takes is fine
  * summary      lent: CLEATMOW_SUMMARY_OCTETS octets
  * summary_len  how many octets are lent; more is fine
  *
- * Refusals, in this order: 13, 10 for the summary, 10 for the group list, 10 for the payload. A refusal changes nothing,
- * but for two: 10 for the group list leaves the first groups in all lent places, and 10 for the payload leaves all groups
- * at the front of `groups`. Which of the three was too small is not said.
+ * Refusals, in this order: 13, 10 for the summary, 10 for the group list, 10 for the payload. A refusal changes
+ * nothing, but for two: 10 for the group list leaves the first groups in all lent places, and 10 for the payload leaves
+ * all groups at the front of `groups`. Which of the three was too small is not said.
  * 0: groups, payload and summary stand at the front of what was lent for each, with the lengths that the summary says;
  *    the octets past them are unchanged.
  */

@@ -1,5 +1,5 @@
-//! Sample maps and lists for benchmarks and comparisons: public for tests/ and for the programs of oracle/, and hidden from the
-//! documentation, since no host needs them. They are the same at every run and on every machine.
+//! Sample maps and lists for benchmarks and comparisons: public for tests/ and for the programs of oracle/, and hidden
+//! from the documentation, since no host needs them. They are the same at every run and on every machine.
 
 use crate::{Differences, Point, Template, GREATEST_NUMBER};
 
@@ -106,8 +106,8 @@ pub fn gust_differences(order: u8, points: u32) -> ComplexMap {
     ComplexMap::packed(&numbers, &packed, descriptors, Some(Differences { order, descriptor_octets: 2 }))
 }
 
-/// The numbers of the gusts: they walk up and down to 16,383. How far a step goes changes every few dozen points: calm stretches do
-/// not change at all, the roughest change by up to 512.
+/// The numbers of the gusts: they walk up and down to 16,383. How far a step goes changes every few dozen points: calm
+/// stretches do not change at all, the roughest change by up to 512.
 pub fn gust_numbers(points: u32) -> Vec<u32> {
     const GREATEST: i64 = 16_383;
     let mut chance = Numbers::new(5_200);
@@ -170,9 +170,9 @@ pub fn spikes(numbers: u32) -> Vec<u32> {
     (0..numbers).map(|_| if chance.below(50) == 0 { chance.below(1 << 31) as u32 } else { 5 }).collect()
 }
 
-/// A list to pack, hard to group at lookahead 29: the greatest number at every 29th place, and 0 and 1 by turns between.
-/// In a group of width 31 a look-ahead of 29 numbers is dear enough only with two bits each, so at every place it is looked
-/// ahead as far as the next greatest number.
+/// A list to pack, hard to group at lookahead 29: the greatest number at every 29th place, and 0 and 1 by turns
+/// between. In a group of width 31 a look-ahead of 29 numbers is dear enough only with two bits each, so at every place
+/// it is looked ahead as far as the next greatest number.
 pub fn comb(numbers: u32) -> Vec<u32> {
     (0..numbers).map(|place| if place % 29 == 0 { GREATEST_NUMBER } else { place % 2 }).collect()
 }

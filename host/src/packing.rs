@@ -40,8 +40,8 @@ impl Packing {
     /// Missing management of every packing: no point is missing. Octet 23.
     pub const MISSING: u8 = 0;
 
-    /// Both missing values of every packing. No point stands for them, and Section 5 has them all the same: octets 24 to
-    /// 27, and 28 to 31.
+    /// Both missing values of every packing. No point stands for them, and Section 5 has them all the same: octets 24
+    /// to 27, and 28 to 31.
     pub const MISSING_VALUE: u32 = 0xffff_ffff;
 }
 
@@ -95,8 +95,8 @@ impl Summary {
 
 /// Groups a list of numbers and packs it.
 ///
-/// The list has 1 to [`MOST_NUMBERS`] numbers of up to [`GREATEST_NUMBER`]. `lookahead` is how many numbers are looked at
-/// before a group is ended, 1 to [`GREATEST_LOOKAHEAD`]; a greater one takes hardly longer.
+/// The list has 1 to [`MOST_NUMBERS`] numbers of up to [`GREATEST_NUMBER`]. `lookahead` is how many numbers are looked
+/// at before a group is ended, 1 to [`GREATEST_LOOKAHEAD`]; a greater one takes hardly longer.
 ///
 /// # Errors
 ///
@@ -121,8 +121,8 @@ pub fn pack(numbers: &[u32], lookahead: u32) -> Result<Packing, Refusal> {
 /// Octets that hold the payload of so many numbers, whatever they are. It takes, in bits a number, at most:
 ///
 /// - references and values, 46.5: a group of one number has a reference of 31 at the most, and width 0; one of more
-///   numbers has a reference of 31 and values of 31 each, which is 46.5 a number where it has two, and less where it has
-///   more.
+///   numbers has a reference of 31 and values of 31 each, which is 46.5 a number where it has two, and less where it
+///   has more.
 /// - width codes, 5: widths are up to 31, and so are their differences.
 /// - length codes, 22: lengths are up to 2^22, and of two groups neither has them all.
 ///
@@ -133,11 +133,11 @@ fn most_payload(numbers: usize) -> usize {
 
 /// Groups a list of numbers and packs it, all in octets that the caller has and lends.
 ///
-/// `numbers` has [`NUMBER_OCTETS`] for each number ([`numbers_as_octets`] makes them). On success the groups stand at the
-/// front of `groups`, [`GROUP_OCTETS`] each ([`groups_in`] reads them), the payload at the front of `payload`, and the
-/// summary, which is also answered, in the first [`SUMMARY_OCTETS`] of `summary`; all octets past them are unchanged. A
-/// list of n numbers has at most n groups. Spare octets of `numbers` and `groups` that are short of a whole number or
-/// group are not used.
+/// `numbers` has [`NUMBER_OCTETS`] for each number ([`numbers_as_octets`] makes them). On success the groups stand at
+/// the front of `groups`, [`GROUP_OCTETS`] each ([`groups_in`] reads them), the payload at the front of `payload`, and
+/// the summary, which is also answered, in the first [`SUMMARY_OCTETS`] of `summary`; all octets past them are
+/// unchanged. A list of n numbers has at most n groups. Spare octets of `numbers` and `groups` that are short of a
+/// whole number or group are not used.
 ///
 /// A refusal changes nothing, but for two: [`Refusal::Room`] for the group list leaves the first groups in all lent
 /// places, and [`Refusal::Room`] for the payload leaves all groups. The summary changes only on success. The other
@@ -169,8 +169,8 @@ pub fn numbers_as_octets(numbers: &[u32]) -> Vec<u8> {
 
 /// The groups that stand in a lent buffer, [`GROUP_OCTETS`] each.
 ///
-/// Every whole group of `octets` is read, and spare octets short of one are not. Where more was lent than the groups take,
-/// hand over the front alone: `&groups[..summary.group_count as usize * GROUP_OCTETS]`.
+/// Every whole group of `octets` is read, and spare octets short of one are not. Where more was lent than the groups
+/// take, hand over the front alone: `&groups[..summary.group_count as usize * GROUP_OCTETS]`.
 pub fn groups_in(octets: &[u8]) -> impl Iterator<Item = Group> + '_ {
     octets.chunks_exact(GROUP_OCTETS).map(|octets| {
         let mut numbers = numbers_in(octets);

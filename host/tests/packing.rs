@@ -1,4 +1,5 @@
-//! Grouping and packing through the C call, against document 01: its cases, its limits, lent buffers, and a plain model.
+//! Grouping and packing through the C call, against document 01: its cases, its limits, lent buffers, and a plain
+//! model.
 
 mod support;
 
@@ -217,8 +218,8 @@ impl Input {
     }
 }
 
-/// Holds the call on buffers of the right size to the model, the call that lends for itself to the same, and the payload
-/// to the list.
+/// Holds the call on buffers of the right size to the model, the call that lends for itself to the same, and the
+/// payload to the list.
 fn compare(numbers: &[u32], lookahead: u32) -> u32 {
     let input = Input::new(numbers, lookahead);
     let lent = input.right.as_ref().map_or(Lent { groups: 64, payload: 64, summary: 40 }, Lent::right);

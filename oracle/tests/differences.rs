@@ -1,6 +1,6 @@
-//! docs/DIFFERENCES.md, "Unpacking under 5.2 and 5.3" and "Packing": each number with its input, what document 01 answers
-//! and what the Rust makes of it. It fails if either changes. The Rust's overflows are checked in the profile `dev`, and
-//! not with `cargo test --release`: both columns are held.
+//! docs/DIFFERENCES.md, "Unpacking under 5.2 and 5.3" and "Packing": each number with its input, what document 01
+//! answers and what the Rust makes of it. It fails if either changes. The Rust's overflows are checked in the profile
+//! `dev`, and not with `cargo test --release`: both columns are held.
 #![cfg(have_text)]
 
 use cleatmow::{Packing, SUMMARY_OCTETS, numbers_as_octets, pack, pack_into, unpack_complex_into, unpack_spatial_into};
@@ -366,7 +366,8 @@ fn packing_has_lent_buffers() {
     assert!(matches!(oracle::pack(&[1], 1), Answer(_)));
 }
 
-/// No difference: a list of equal numbers is one group to both, where the Rust does not take its own path for such data.
+/// No difference: a list of equal numbers is one group to both, where the Rust does not take its own path for such
+/// data.
 #[test]
 fn equal_numbers_are_one_group() {
     let Answer(rust) = oracle::pack(&[5; 7], 3) else { panic!("the Rust packs equal numbers") };

@@ -2,9 +2,9 @@
 //! timed.
 //!
 //! `bench [OPERATION] [--points N]` times one operation or all, on maps of N points, 1,000,000 without the option. Those
-//! that begin with `real_` unpack the real maps of samples/, which have the points that they have. Those that begin with
-//! `pack_` pack numbers: a number after it is the lookahead, on the numbers of a made map; a word names a list that is
-//! hard to group, at the greatest lookahead or, for `comb`, at the one that is hardest for it.
+//! that begin with `real_` unpack the real maps of samples/, which have the points that they have. Those that begin
+//! with `pack_` pack numbers: a number after it is the lookahead, on the numbers of a made map; a word names a list
+//! that is hard to group, at the greatest lookahead or, for `comb`, at the one that is hardest for it.
 //! With `--only-ours` or `--only-rust` it makes one call and times nothing, for a tool that counts instructions.
 //!
 //! An operation is a type that is an `Operation`, and a line in `OPERATIONS`.

@@ -12,9 +12,9 @@
 //! - Kinds 4 and 5, unpacking under 5.2 and 5.3: 1 declared count; 2 to 11 the template numbers in the order of the C
 //!   call, one octet each, and 12 and 13 the two that 5.3 has besides; 14 length of the payload, 0 to 12; 15 document
 //!   01's number for the refusal, or 0; 16 to 27 the payload; from 28 the points, at most four, nine octets each.
-//! - Kind 6, packing: 1 count of numbers, 1 to 15; 2 and 3 lookahead; from 4 the numbers, four octets each, to the end of
-//!   the first 64 octets. Then what the C call leaves in lent octets that were 0: 64 to 103 the summary; 104 to 207 the
-//!   payload; from 208 the groups, sixteen octets each.
+//! - Kind 6, packing: 1 count of numbers, 1 to 15; 2 and 3 lookahead; from 4 the numbers, four octets each, to the end
+//!   of the first 64 octets. Then what the C call leaves in lent octets that were 0: 64 to 103 the summary; 104 to 207
+//!   the payload; from 208 the groups, sixteen octets each.
 
 #[cfg(not(have_text))]
 fn main() {

@@ -6,8 +6,8 @@
 //! - `compare run_length BITS MAX_LEVEL DECLARED PAYLOAD`
 //! - `compare unpack_complex` and the numbers of the C call in its order, the octets that are lent, the payload
 //! - `compare unpack_spatial`, likewise
-//! - `compare pack LOOKAHEAD NUMBERS`, the numbers in hexadecimal too, four octets each; and, where it is not just enough,
-//!   the octets that are lent for groups, payload and summary
+//! - `compare pack LOOKAHEAD NUMBERS`, the numbers in hexadecimal too, four octets each; and, where it is not just
+//!   enough, the octets that are lent for groups, payload and summary
 //!
 //! An operation is a module with an `Input` that prints and reads itself, `judge` and `compare`, and a line here.
 

@@ -71,8 +71,8 @@ impl Lent {
     }
 }
 
-/// Ours against document 01 as `oracle::packing` has it, all lent octets and the guards about them too, and the list read
-/// back from the payload; and against the Rust, wherever that is a judge.
+/// Ours against document 01 as `oracle::packing` has it, all lent octets and the guards about them too, and the list
+/// read back from the payload; and against the Rust, wherever that is a judge.
 pub fn judge(input: &Input) -> Verdict {
     let Input { lookahead, numbers, .. } = input;
     if is_refused(numbers, *lookahead) {
