@@ -5,8 +5,8 @@
  * Every call:
  * - answers 0, or the number of a refusal (enum cleatmow_refusal). Its comment lists the refusals in the order in which
  *   they are tested; the first that applies is the answer.
- * - takes a list of octets as a pointer and a length in octets. In a lent buffer, spare octets short of a whole point
- *   or level are not used.
+ * - takes a list of octets as a pointer and a length in octets. Spare octets short of a whole point, level, number or
+ *   group are not used.
  * - leaves the places past its answer unchanged after success, and changes no buffer on a refusal unless its comment
  *   says so. It writes nowhere else.
  * - keeps nothing and allocates nothing, so calls on buffers of their own may run at the same time.
@@ -68,6 +68,29 @@ enum cleatmow_refusal {
 
 /* The size of a level in octets: a number from 0 to M, big-endian. */
 #define CLEATMOW_LEVEL_OCTETS 2
+
+/* The greatest count of numbers that a list to pack has, the greatest number in it, and the greatest lookahead. */
+#define CLEATMOW_MOST_NUMBERS 4194304
+#define CLEATMOW_GREATEST_NUMBER 2147483647
+#define CLEATMOW_GREATEST_LOOKAHEAD 65535
+
+/* The size of a number to pack in octets, big-endian. */
+#define CLEATMOW_NUMBER_OCTETS 4
+
+/* The size of a group in octets: start, length, least number and width, four octets each, big-endian. */
+#define CLEATMOW_GROUP_OCTETS 16
+
+/*
+ * The size of a packing's summary in octets: ten numbers of four octets each, big-endian. They are the number width;
+ * the groups; the width reference and the width bits; the length reference, the increment, the last length and the
+ * length bits; then the group count, which is the groups once more, and the payload length in octets.
+ */
+#define CLEATMOW_SUMMARY_OCTETS 40
+
+/* What is the same in every packing: splitting method, missing management, and both missing values of Section 5. */
+#define CLEATMOW_PACKING_SPLITTING 1
+#define CLEATMOW_PACKING_MISSING 0
+#define CLEATMOW_PACKING_MISSING_VALUE 0xffffffff
 
 /*
  * Unpacking under template 5.2: reads the points of a map. Pad bits and octets after the last value are ignored.
@@ -141,6 +164,36 @@ uint32_t cleatmow_run_length(
     uint8_t bits, uint16_t max_level, uint32_t declared,
     const uint8_t *payload, size_t payload_len,
     uint8_t *levels, size_t levels_len);
+
+/*
+ * Grouping and packing: makes the payload of a map under template 5.2 of a list of numbers. cleatmow_unpack_complex
+ * reads the list back with the template numbers of the summary, CLEATMOW_PACKING_SPLITTING and
+ * CLEATMOW_PACKING_MISSING.
+ *
+ * lookahead    k, how many numbers are looked at before a group is ended: 1 to CLEATMOW_GREATEST_LOOKAHEAD
+ * numbers      the list, 1 to CLEATMOW_MOST_NUMBERS numbers of up to CLEATMOW_GREATEST_NUMBER, CLEATMOW_NUMBER_OCTETS
+ *              each
+ * numbers_len  how many octets the list has
+ * groups       lent: the group list, CLEATMOW_GROUP_OCTETS for each group. There are at most as many groups as numbers
+ * groups_len   how many octets are lent; more than the groups take is fine
+ * payload      lent: room for the octets of Section 7 after its five-octet header. Ten octets a number and four more
+ *              are always enough
+ * payload_len  how many octets are lent; more than the payload takes is fine
+ * summary      lent: CLEATMOW_SUMMARY_OCTETS octets
+ * summary_len  how many octets are lent; more is fine
+ *
+ * Refusals, in this order: 13, 10 for the summary, 10 for the group list, 10 for the payload. A refusal changes
+ * nothing, but for two: 10 for the group list leaves the first groups in all lent places, and 10 for the payload leaves
+ * all groups at the front of `groups`. Which of the three was too small is not said.
+ * 0: groups, payload and summary stand at the front of what was lent for each, with the lengths that the summary says;
+ *    the octets past them are unchanged.
+ */
+uint32_t cleatmow_pack(
+    uint32_t lookahead,
+    const uint8_t *numbers, size_t numbers_len,
+    uint8_t *groups, size_t groups_len,
+    uint8_t *payload, size_t payload_len,
+    uint8_t *summary, size_t summary_len);
 
 #ifdef __cplusplus
 }

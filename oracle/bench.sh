@@ -7,7 +7,11 @@ cd "$(dirname "$0")"
 # Each operation of the program, and what it calls: with cleatmow_ before it the C call, with rust_ the oracle's function.
 OPERATIONS="run_length:run_length unpack_complex:unpack_complex
     unpack_spatial_1:unpack_spatial unpack_spatial_2:unpack_spatial
-    real_gust:unpack_spatial real_conus:unpack_complex real_puerto_rico:unpack_spatial"
+    real_gust:unpack_spatial real_conus:unpack_complex real_puerto_rico:unpack_spatial
+    pack_8:pack pack_64:pack pack_1024:pack"
+# Those where the Rust is left out: at the greatest lookahead it would take too long.
+ALONE="pack_65535:pack pack_rising:pack pack_sawtooth:pack pack_patches:pack pack_alternating:pack
+    pack_doubling:pack pack_spikes:pack pack_comb:pack"
 # Of the made maps: enough for a steady count, and few enough for callgrind. The real ones have the points that they have.
 POINTS=100000
 
@@ -52,4 +56,11 @@ for pair in $OPERATIONS; do
     echo "$operation: ${ours% *} points, instructions a point"
     echo "  ours, lent buffer  ${ours#* }"
     echo "  Rust, new list     ${rust#* }"
+done
+
+for pair in $ALONE; do
+    operation=${pair%:*}
+    ours=$(counted "$operation" ours "cleatmow_${pair#*:}")
+    echo "$operation: ${ours% *} points, instructions a point"
+    echo "  ours, lent buffer  ${ours#* }"
 done

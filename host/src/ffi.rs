@@ -51,6 +51,18 @@ mod c {
             levels: *mut u8,
             levels_len: usize,
         ) -> u32;
+
+        pub fn cleatmow_pack(
+            lookahead: u32,
+            numbers: *const u8,
+            numbers_len: usize,
+            groups: *mut u8,
+            groups_len: usize,
+            payload: *mut u8,
+            payload_len: usize,
+            summary: *mut u8,
+            summary_len: usize,
+        ) -> u32;
     }
 }
 
@@ -120,6 +132,23 @@ pub fn run_length(bits: u8, max_level: u16, declared: u32, payload: &[u8], level
             payload.len(),
             levels.as_mut_ptr(),
             levels.len(),
+        )
+    }
+}
+
+pub fn pack(lookahead: u32, numbers: &[u8], groups: &mut [u8], payload: &mut [u8], summary: &mut [u8]) -> u32 {
+    // SAFETY: as in `unpack_complex`, with the three lent slices for `points`: none overlaps another.
+    unsafe {
+        c::cleatmow_pack(
+            lookahead,
+            numbers.as_ptr(),
+            numbers.len(),
+            groups.as_mut_ptr(),
+            groups.len(),
+            payload.as_mut_ptr(),
+            payload.len(),
+            summary.as_mut_ptr(),
+            summary.len(),
         )
     }
 }

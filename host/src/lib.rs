@@ -54,6 +54,20 @@
 //! # Ok::<(), cleatmow::Refusal>(())
 //! ```
 //!
+//! Packing goes the other way, from a list of numbers to a payload and the template numbers that read it:
+//!
+//! ```
+//! use cleatmow::{pack, unpack_complex, Point};
+//!
+//! let numbers = [0, 0, 0, 0, 8, 8, 8];
+//! let packing = pack(&numbers, 2)?;
+//! assert_eq!(packing.payload, [0x08]);
+//! assert_eq!(packing.groups.len(), 2);
+//! let points = unpack_complex(&packing.template, 7, &packing.payload)?;
+//! assert_eq!(points, numbers.map(|number| Point::Number(number.into())));
+//! # Ok::<(), cleatmow::Refusal>(())
+//! ```
+//!
 //! Its build runs `rt staticlib cleatmow` in the folder above and links the archive; `rt`, the Rattle toolchain, must
 //! be on the PATH. `CLEATMOW_ARCHIVE_DIR` names a folder that has `libcleatmow.a` already, and nothing is made then.
 //! A host in another language links `target/staticlib/libcleatmow.a` and includes `include/cleatmow.h`.
@@ -64,10 +78,15 @@
 mod ffi;
 #[doc(hidden)]
 pub mod maps;
+mod packing;
 mod refusal;
 mod run_length;
 mod unpacking;
 
+pub use packing::{
+    groups_in, numbers_as_octets, pack, pack_into, Group, Packing, Summary, GREATEST_LOOKAHEAD, GREATEST_NUMBER,
+    GROUP_OCTETS, MOST_NUMBERS, NUMBER_OCTETS, SUMMARY_OCTETS,
+};
 pub use refusal::Refusal;
 pub use run_length::{run_length, run_length_into, LEVEL_OCTETS};
 pub use unpacking::{

@@ -1,7 +1,7 @@
-//! Sample maps for benchmarks and comparisons: public for tests/ and for the programs of oracle/, and hidden from the
-//! documentation, since no host needs them. They are the same at every run and on every machine.
+//! Sample maps and lists for benchmarks and comparisons: public for tests/ and for the programs of oracle/, and hidden
+//! from the documentation, since no host needs them. They are the same at every run and on every machine.
 
-use crate::{Differences, Point, Template};
+use crate::{Differences, Point, Template, GREATEST_NUMBER};
 
 /// A run-length map: what a call is given, and the levels that it must answer.
 pub struct RunLengthMap {
@@ -106,9 +106,9 @@ pub fn gust_differences(order: u8, points: u32) -> ComplexMap {
     ComplexMap::packed(&numbers, &packed, descriptors, Some(Differences { order, descriptor_octets: 2 }))
 }
 
-/// Numbers up to 16,383 that walk up and down. How far a step goes changes every few dozen points: calm stretches do
-/// not change at all, the roughest change by up to 512.
-fn gust_numbers(points: u32) -> Vec<u32> {
+/// The numbers of the gusts: they walk up and down to 16,383. How far a step goes changes every few dozen points: calm
+/// stretches do not change at all, the roughest change by up to 512.
+pub fn gust_numbers(points: u32) -> Vec<u32> {
     const GREATEST: i64 = 16_383;
     let mut chance = Numbers::new(5_200);
     let (mut number, mut rough) = (GREATEST / 4, 4);
@@ -129,6 +129,52 @@ fn gust_numbers(points: u32) -> Vec<u32> {
     }
     numbers.truncate(points as usize);
     numbers
+}
+
+/// A list to pack, hard to group: each number is one more than the last.
+pub fn rising(numbers: u32) -> Vec<u32> {
+    (0..numbers).collect()
+}
+
+/// A list to pack, hard to group: it rises to 999 and falls back to 0.
+pub fn sawtooth(numbers: u32) -> Vec<u32> {
+    (0..numbers).map(|place| place % 1_000).collect()
+}
+
+/// A list to pack, hard to group: flat patches of up to 131,072 numbers, most of them much shorter.
+pub fn patches(numbers: u32) -> Vec<u32> {
+    let mut chance = Numbers::new(17);
+    let mut list = Vec::new();
+    while list.len() < numbers as usize {
+        let longest = 2 << chance.below(17);
+        let (level, length) = (chance.below(256) as u32, 1 + chance.below(longest) as usize);
+        list.resize(list.len() + length, level);
+    }
+    list.truncate(numbers as usize);
+    list
+}
+
+/// A list to pack, hard to group: 0 and the greatest number by turns.
+pub fn alternating(numbers: u32) -> Vec<u32> {
+    (0..numbers).map(|place| place % 2 * GREATEST_NUMBER).collect()
+}
+
+/// A list to pack, hard to group: each power of two, from 1 to 2^30, over and over.
+pub fn doubling(numbers: u32) -> Vec<u32> {
+    (0..numbers).map(|place| 1 << (place % 31)).collect()
+}
+
+/// A list to pack, hard to group: one number in fifty, by chance, is any, and all others are 5.
+pub fn spikes(numbers: u32) -> Vec<u32> {
+    let mut chance = Numbers::new(50);
+    (0..numbers).map(|_| if chance.below(50) == 0 { chance.below(1 << 31) as u32 } else { 5 }).collect()
+}
+
+/// A list to pack, hard to group at lookahead 29: the greatest number at every 29th place, and 0 and 1 by turns
+/// between. In a group of width 31 a look-ahead of 29 numbers is dear enough only with two bits each, so at every place
+/// it is looked ahead as far as the next greatest number.
+pub fn comb(numbers: u32) -> Vec<u32> {
+    (0..numbers).map(|place| if place % 29 == 0 { GREATEST_NUMBER } else { place % 2 }).collect()
 }
 
 impl ComplexMap {

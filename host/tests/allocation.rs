@@ -1,8 +1,9 @@
 //! What the wrappers allocate, and that the calls on lent octets do not.
 
 use cleatmow::{
-    run_length, run_length_into, unpack_complex, unpack_complex_into, unpack_spatial, unpack_spatial_into, Differences,
-    Refusal, Template, LEVEL_OCTETS, MOST_POINTS, POINT_OCTETS,
+    numbers_as_octets, pack, pack_into, run_length, run_length_into, unpack_complex, unpack_complex_into,
+    unpack_spatial, unpack_spatial_into, Differences, Refusal, Template, GROUP_OCTETS, LEVEL_OCTETS, MOST_NUMBERS,
+    MOST_POINTS, NUMBER_OCTETS, POINT_OCTETS, SUMMARY_OCTETS,
 };
 use std::alloc::{GlobalAlloc, Layout, System};
 use std::cell::Cell;
@@ -109,6 +110,21 @@ fn a_list_of_points_is_two_requests() {
     assert_eq!((requests, largest), (2, 8_000 * size_of::<cleatmow::Point>()));
 }
 
+/// Of a list above the limit as much is handed on as shows that it is, and no group list is lent.
+#[test]
+fn what_packing_asks_for() {
+    let most = MOST_NUMBERS as usize;
+    for more in [1, 2, 1_000_000] {
+        let list = vec![0; most + more];
+        let (_, largest) = asked(|| assert_eq!(pack(&list, 8), Err(Refusal::Numbers)));
+        assert_eq!(largest, (most + 1) * NUMBER_OCTETS, "{more} more");
+    }
+    // The group list is the largest that is lent; what is answered has the size that it has.
+    let list: Vec<u32> = (0..1_000).collect();
+    let (_, largest) = asked(|| assert!(pack(&list, 8).is_ok_and(|packing| packing.payload.capacity() < 1_500)));
+    assert_eq!(largest, 1_000 * GROUP_OCTETS);
+}
+
 #[test]
 fn calls_on_lent_octets_allocate_nothing() {
     let payload = vec![0x53; 3_000];
@@ -117,6 +133,9 @@ fn calls_on_lent_octets_allocate_nothing() {
     let beyond = Template { number_width: 31, width_reference: 0, ..template(40_000) };
     let mut many = vec![0; 40_000 * POINT_OCTETS];
     let far = [0, 0, 0, 0, 0, 0, 0, 0, 0, 0, 0, 0, 0xFF, 0xFF, 0xFF, 0xF0];
+    let list = numbers_as_octets(&[5, 6, 5, 7].repeat(500));
+    let mut groups = vec![0; 2_000 * GROUP_OCTETS];
+    let mut summary = [0; SUMMARY_OCTETS];
     let nothing = asked(|| {
         // Answers 0, 7, 9, 10 and 12.
         assert_eq!(unpack_complex_into(&template(8_000), 8_000, &payload, &mut points), Ok(()));
@@ -131,6 +150,16 @@ fn calls_on_lent_octets_allocate_nothing() {
         let second = Differences { order: 2, descriptor_octets: 4 };
         assert_eq!(unpack_spatial_into(&beyond, &second, 40_000, &far, &mut many), Err(Refusal::Beyond));
         assert_eq!(run_length_into(8, 200, 3_000, &payload, &mut levels), Ok(()));
+        // Answers 0, 13, and 10 for each of the three.
+        let mut packed = |lookahead, slots: usize, room: usize, forty: usize| {
+            let (groups, payload) = (&mut groups[..slots * GROUP_OCTETS], &mut points[..room]);
+            pack_into(lookahead, &list, groups, payload, &mut summary[..forty]).map(|summary| summary.group_count)
+        };
+        assert_eq!(packed(1, 2_000, 4_000, SUMMARY_OCTETS), Ok(2_000));
+        assert_eq!(packed(0, 2_000, 4_000, SUMMARY_OCTETS), Err(Refusal::Numbers));
+        assert_eq!(packed(1, 2_000, 4_000, SUMMARY_OCTETS - 1), Err(Refusal::Room));
+        assert_eq!(packed(1, 1_999, 4_000, SUMMARY_OCTETS), Err(Refusal::Room));
+        assert_eq!(packed(1, 2_000, 4, SUMMARY_OCTETS), Err(Refusal::Room));
     });
     assert_eq!(nothing, (0, 0));
 }

@@ -23,6 +23,11 @@ static int is_all(const uint8_t *octets, size_t len, uint8_t octet) {
 static int constants(void) {
     EXPECT(CLEATMOW_MOST_POINTS == 4194304);
     EXPECT(CLEATMOW_POINT_OCTETS == 9 && CLEATMOW_LEVEL_OCTETS == 2);
+    EXPECT(CLEATMOW_NUMBER_OCTETS == 4 && CLEATMOW_GROUP_OCTETS == 16 && CLEATMOW_SUMMARY_OCTETS == 40);
+    EXPECT(CLEATMOW_MOST_NUMBERS == 4194304 && CLEATMOW_GREATEST_NUMBER == 2147483647);
+    EXPECT(CLEATMOW_GREATEST_LOOKAHEAD == 65535);
+    EXPECT(CLEATMOW_PACKING_SPLITTING == 1 && CLEATMOW_PACKING_MISSING == 0);
+    EXPECT(CLEATMOW_PACKING_MISSING_VALUE == 0xFFFFFFFF);
     EXPECT(CLEATMOW_REFUSAL_SPLITTING == 1 && CLEATMOW_REFUSAL_NUMBERS == 13);
     return 0;
 }
@@ -119,10 +124,72 @@ static int run_length(void) {
     return 0;
 }
 
+/* Numbers of four octets each, big-endian. */
+static int are_numbers(const uint8_t *octets, size_t count, const uint32_t *numbers) {
+    size_t i;
+    for (i = 0; i < count; i++, octets += 4) {
+        const uint32_t high = (uint32_t)octets[0] << 24 | (uint32_t)octets[1] << 16;
+        if ((high | (uint32_t)octets[2] << 8 | octets[3]) != numbers[i]) return 0;
+    }
+    return 1;
+}
+
+static int pack(void) {
+    /* 5 6 5 7 and a spare octet; and a number of 32 bits. */
+    const uint8_t list[] = {0, 0, 0, 5, 0, 0, 0, 6, 0, 0, 0, 5, 0, 0, 0, 7, 9};
+    const uint8_t great[] = {0, 0, 0, 5, 0x80, 0, 0, 0};
+    const uint8_t written[] = {0xBC, 0x80, 0x40};
+    const uint32_t two_groups[] = {0, 3, 5, 1, 3, 1, 7, 0}, numbers[] = {3, 2, 0, 1, 3, 0, 1, 0, 2, 3};
+    uint8_t groups[2 * CLEATMOW_GROUP_OCTETS + 3], payload[5], summary[CLEATMOW_SUMMARY_OCTETS + 3];
+    uint8_t points[4 * CLEATMOW_POINT_OCTETS];
+    const size_t slots = sizeof groups, room = sizeof payload, forty = sizeof summary;
+    memset(groups, 0xEE, slots);
+    memset(payload, 0xEE, room);
+    memset(summary, 0xEE, forty);
+
+#define PACK(lookahead, list, len, groups_len, payload_len, summary_len) cleatmow_pack( \
+    lookahead, list, len, groups, groups_len, payload, payload_len, summary, summary_len)
+    EXPECT(PACK(0, list, 17, slots, room, forty) == CLEATMOW_REFUSAL_NUMBERS);
+    EXPECT(PACK(65536, list, 17, slots, room, forty) == CLEATMOW_REFUSAL_NUMBERS);
+    EXPECT(PACK(4, list, 3, slots, room, forty) == CLEATMOW_REFUSAL_NUMBERS);
+    EXPECT(PACK(4, great, 8, 0, 0, 0) == CLEATMOW_REFUSAL_NUMBERS);
+    EXPECT(PACK(4, list, 17, slots, room, 39) == CLEATMOW_REFUSAL_ROOM);
+    EXPECT(is_all(groups, slots, 0xEE) && is_all(payload, room, 0xEE) && is_all(summary, forty, 0xEE));
+
+    /* A short group list keeps the first groups, in whole places alone; a short payload leaves all groups. */
+    EXPECT(PACK(4, list, 17, 31, room, forty) == CLEATMOW_REFUSAL_ROOM);
+    EXPECT(are_numbers(groups, 4, two_groups) && is_all(groups + 16, slots - 16, 0xEE));
+    EXPECT(PACK(4, list, 17, slots, 2, forty) == CLEATMOW_REFUSAL_ROOM);
+    EXPECT(are_numbers(groups, 8, two_groups) && is_all(groups + 32, slots - 32, 0xEE));
+    EXPECT(is_all(payload, room, 0xEE) && is_all(summary, forty, 0xEE));
+
+    memset(groups, 0xEE, slots);
+    EXPECT(PACK(4, list, 17, slots, room, forty) == 0);
+    EXPECT(are_numbers(groups, 8, two_groups) && is_all(groups + 32, slots - 32, 0xEE));
+    EXPECT(memcmp(payload, written, 3) == 0 && is_all(payload + 3, room - 3, 0xEE));
+    EXPECT(are_numbers(summary, 10, numbers) && is_all(summary + 40, forty - 40, 0xEE));
+    EXPECT(cleatmow_unpack_complex(4, 3, CLEATMOW_PACKING_SPLITTING, CLEATMOW_PACKING_MISSING, 2, 0, 1, 3, 0, 1, 0,
+        payload, 3, points, sizeof points) == 0);
+    EXPECT(is_point(points, 0, 5) && is_point(points + 9, 0, 6));
+    EXPECT(is_point(points + 18, 0, 5) && is_point(points + 27, 0, 7));
+
+    /* An empty list and empty buffers, as null pointers; and a payload of no octets. */
+    EXPECT(cleatmow_pack(1, NULL, 0, NULL, 0, NULL, 0, NULL, 0) == CLEATMOW_REFUSAL_NUMBERS);
+    EXPECT(cleatmow_pack(1, list, 4, NULL, 0, NULL, 0, NULL, 0) == CLEATMOW_REFUSAL_ROOM);
+    EXPECT(cleatmow_pack(1, list, 4, NULL, 0, NULL, 0, summary, forty) == CLEATMOW_REFUSAL_ROOM);
+    EXPECT(cleatmow_pack(1, list, 4, groups, 16, NULL, 0, summary, forty) == CLEATMOW_REFUSAL_ROOM);
+    EXPECT(cleatmow_pack(1, list + 1, 4, groups, 16, payload, room, summary, forty) == 0);
+    memset(points, 0, sizeof points);
+    EXPECT(cleatmow_pack(1, points, 8, groups, 16, NULL, 0, summary, forty) == 0);
+    EXPECT(is_all(summary, 4, 0) && is_all(summary + 36, 4, 0));
+    return 0;
+}
+
 int main(void) {
     int line = constants();
     if (line == 0) line = unpack_complex();
     if (line == 0) line = unpack_spatial();
     if (line == 0) line = run_length();
+    if (line == 0) line = pack();
     return line;
 }

@@ -1,6 +1,9 @@
 //! The refusals' numbers and sentences, and the constants that the C header repeats.
 
-use cleatmow::{Refusal, LEVEL_OCTETS, MOST_POINTS, POINT_OCTETS};
+use cleatmow::{
+    Packing, Refusal, GREATEST_LOOKAHEAD, GREATEST_NUMBER, GROUP_OCTETS, LEVEL_OCTETS, MOST_NUMBERS, MOST_POINTS,
+    NUMBER_OCTETS, POINT_OCTETS, SUMMARY_OCTETS,
+};
 use std::collections::HashSet;
 use std::error::Error;
 
@@ -51,4 +54,13 @@ fn the_header_says_the_same() {
     assert!(has(format!("#define CLEATMOW_MOST_POINTS {MOST_POINTS}")));
     assert!(has(format!("#define CLEATMOW_POINT_OCTETS {POINT_OCTETS}")));
     assert!(has(format!("#define CLEATMOW_LEVEL_OCTETS {LEVEL_OCTETS}")));
+    assert!(has(format!("#define CLEATMOW_MOST_NUMBERS {MOST_NUMBERS}")));
+    assert!(has(format!("#define CLEATMOW_GREATEST_NUMBER {GREATEST_NUMBER}")));
+    assert!(has(format!("#define CLEATMOW_GREATEST_LOOKAHEAD {GREATEST_LOOKAHEAD}")));
+    assert!(has(format!("#define CLEATMOW_NUMBER_OCTETS {NUMBER_OCTETS}")));
+    assert!(has(format!("#define CLEATMOW_GROUP_OCTETS {GROUP_OCTETS}")));
+    assert!(has(format!("#define CLEATMOW_SUMMARY_OCTETS {SUMMARY_OCTETS}")));
+    assert!(has(format!("#define CLEATMOW_PACKING_SPLITTING {}", Packing::SPLITTING)));
+    assert!(has(format!("#define CLEATMOW_PACKING_MISSING {}", Packing::MISSING)));
+    assert!(has(format!("#define CLEATMOW_PACKING_MISSING_VALUE {:#x}", Packing::MISSING_VALUE)));
 }

@@ -38,10 +38,11 @@ mod doors {
 }
 
 pub mod dice;
+pub mod packing;
 pub mod runs;
 pub mod unpacking;
 
-pub use cleatmow::{Differences, Point, Template};
+pub use cleatmow::{Differences, Group, Point, Template};
 
 /// What a program prints, and all that it does, where the text is not there.
 pub const NOT_RUN: &str =
@@ -57,14 +58,7 @@ pub enum Outcome<T> {
     Panicked,
 }
 
-#[derive(Clone, Copy, Debug, PartialEq, Eq)]
-pub struct Group {
-    pub start: usize,
-    pub length: usize,
-    pub least: u32,
-    pub width: u8,
-}
-
+/// A packing of the Rust.
 #[derive(Clone, Debug, PartialEq, Eq)]
 pub struct Packing {
     pub template: Template,
@@ -144,7 +138,26 @@ mod doors_to_the_text {
     }
 
     pub fn pack(numbers: &[u32], lookahead: usize) -> Outcome<Packing> {
-        caught(|| encoder::door::pack(numbers, lookahead).map_err(String::from))
+        caught(|| match encoder::door::pack(numbers, lookahead) {
+            Ok(packed) => Ok(packed.packing()),
+            Err(said) => Err(said.into()),
+        })
+    }
+
+    /// A packing as the Rust holds it.
+    pub struct Packed(encoder::door::Packed);
+
+    impl Packed {
+        pub fn packing(&self) -> Packing {
+            self.0.packing()
+        }
+    }
+
+    /// Packing as it is timed, like `rust_run_length`: from the numbers to its groups, the template numbers and a
+    /// written Section 7.
+    #[inline(never)]
+    pub fn rust_pack(numbers: &[u32], lookahead: usize) -> Option<Packed> {
+        encoder::door::pack(numbers, lookahead).ok().map(Packed)
     }
 
     fn debug<T, E: std::fmt::Debug>(answer: Result<T, E>) -> Result<T, String> {

@@ -1,13 +1,14 @@
-//! docs/DIFFERENCES.md, "Unpacking under 5.2 and 5.3": each number with its input, what document 01 answers and what the
-//! Rust makes of it. It fails if either changes. The Rust's overflows are checked in the profile `dev`, and not with
-//! `cargo test --release`: both columns are held.
+//! docs/DIFFERENCES.md, "Unpacking under 5.2 and 5.3" and "Packing": each number with its input, what document 01
+//! answers and what the Rust makes of it. It fails if either changes. The Rust's overflows are checked in the profile
+//! `dev`, and not with `cargo test --release`: both columns are held.
 #![cfg(have_text)]
 
-use cleatmow::{unpack_complex_into, unpack_spatial_into};
-use oracle::Differences;
+use cleatmow::{Packing, SUMMARY_OCTETS, numbers_as_octets, pack, pack_into, unpack_complex_into, unpack_spatial_into};
 use oracle::Outcome::{self, Answer, Panicked, Refused};
 use oracle::Point::{self, Missing1, Number};
+use oracle::packing::{coded, is_refused};
 use oracle::unpacking::{Input, octets_of, template};
+use oracle::{Differences, Template};
 
 /// What the Rust makes of an input.
 #[derive(Debug, PartialEq)]
@@ -227,4 +228,150 @@ fn is(rust: &Outcome<Vec<Point>>, expected: &Rust) -> bool {
         (Panicked, Panics) => true,
         _ => false,
     }
+}
+
+/// A list to pack: its lookahead, and how many times each number stands in it.
+struct List {
+    lookahead: u32,
+    runs: &'static [(u32, usize)],
+}
+
+impl List {
+    fn numbers(&self) -> Vec<u32> {
+        self.runs.iter().flat_map(|(number, times)| vec![*number; *times]).collect()
+    }
+}
+
+/// Template numbers as document 01 lists them, and the payload.
+type Octets = ([u32; 8], &'static [u8]);
+
+/// What the Rust makes of a list.
+#[derive(Debug, PartialEq)]
+enum Packs {
+    /// And it says that the payload has so many octets; and its own unpacking gives so many points, or refuses it.
+    As(Octets, usize, Result<usize, &'static str>),
+    Not,
+}
+
+struct PackingDifference {
+    number: &'static str,
+    list: List,
+    /// Document 01's packing, or its refusal.
+    document: Result<Octets, u32>,
+    checked: Packs,
+    unchecked: Packs,
+}
+
+fn packing_differences() -> Vec<PackingDifference> {
+    let list = |lookahead, runs| List { lookahead, runs };
+    let both = |number, list, document, rust: fn() -> Packs| PackingDifference {
+        number,
+        list,
+        document,
+        checked: rust(),
+        unchecked: rust(),
+    };
+    const MISMATCH: Result<usize, &str> = Err("LengthMismatch");
+    vec![
+        both(
+            "26",
+            list(1, &[(0, 1), (1, 258), (0, 1)]),
+            Ok(([1, 3, 0, 0, 1, 1, 1, 9], &[0x40, 0x00, 0x40, 0x40, 0x00])),
+            || Packs::As(([1, 3, 0, 0, 1, 1, 1, 1], &[0x40, 0x40]), 2, Ok(4)),
+        ),
+        both(
+            "26, the case of document 01",
+            list(1, &[(0, 10), (8, 310), (0, 5)]),
+            Ok(([4, 3, 0, 0, 10, 150, 5, 2], &[0x08, 0x00, 0x20])),
+            || Packs::As(([4, 3, 0, 0, 10, 44, 5, 1], &[0x08, 0x00, 0x80]), 3, Ok(69)),
+        ),
+        both(
+            "26, the greatest step that meets",
+            list(1, &[(0, 1), (1, 256), (0, 1)]),
+            Ok(([1, 3, 0, 0, 1, 255, 1, 1], &[0x40, 0x40])),
+            || Packs::As(([1, 3, 0, 0, 1, 255, 1, 1], &[0x40, 0x40]), 2, Ok(258)),
+        ),
+        both("27", list(1, &[(0, 1), (1, 257), (0, 1)]), Ok(([1, 3, 0, 0, 1, 128, 1, 2], &[0x40, 0x20])), || {
+            Packs::As(([1, 3, 0, 0, 1, 0, 1, 1], &[0x40]), 2, MISMATCH)
+        }),
+        both(
+            "27, of four groups",
+            list(1, &[(0, 1), (8, 1), (0, 257), (8, 1)]),
+            Ok(([4, 4, 0, 0, 1, 128, 1, 2], &[0x08, 0x08, 0x08])),
+            || Packs::As(([4, 4, 0, 0, 1, 0, 1, 1], &[0x08, 0x08]), 3, MISMATCH),
+        ),
+        both("28", list(1, &[]), Err(13), || Packs::Not),
+        both("29", list(1, &[(0, 4_194_305)]), Err(13), || {
+            Packs::As(([0, 1, 0, 0, 0, 0, 4_194_305, 0], &[]), 0, Ok(4_194_305))
+        }),
+        both("30", list(1, &[(1 << 31, 1)]), Err(13), || {
+            Packs::As(([32, 1, 0, 0, 0, 0, 1, 0], &[0x80, 0, 0, 0]), 4, MISMATCH)
+        }),
+        both("31, one number", list(0, &[(0, 1)]), Err(13), || Packs::As(([0, 1, 0, 0, 0, 0, 1, 0], &[]), 0, Ok(1))),
+        PackingDifference {
+            number: "31",
+            list: list(0, &[(0, 2)]),
+            document: Err(13),
+            checked: Packs::Not,
+            unchecked: Packs::As(([0, 1, 0, 0, 0, 0, 2, 0], &[]), 0, Ok(2)),
+        },
+        both("32", list(65_536, &[(0, 1)]), Err(13), || Packs::As(([0, 1, 0, 0, 0, 0, 1, 0], &[]), 0, Ok(1))),
+        both("32, the last that is accepted", list(65_535, &[(0, 1)]), Ok(([0, 1, 0, 0, 0, 0, 1, 0], &[])), || {
+            Packs::As(([0, 1, 0, 0, 0, 0, 1, 0], &[]), 0, Ok(1))
+        }),
+    ]
+}
+
+#[test]
+fn each_difference_of_packing_is_as_it_is_written() {
+    for PackingDifference { number, list, document, checked, unchecked } in packing_differences() {
+        let numbers = list.numbers();
+        let octets = |&(template_numbers, payload): &Octets| (template(template_numbers), payload.to_vec());
+        let shown = |Packing { template, payload, .. }: Packing| (template, payload);
+        let written = if is_refused(&numbers, list.lookahead) {
+            Err(13)
+        } else {
+            Ok(shown(coded(&numbers, list.lookahead).packing))
+        };
+        let ours = pack(&numbers, list.lookahead).map(shown).map_err(|refusal| refusal.number());
+        assert_eq!((&written, &ours), (&document.as_ref().map(octets).map_err(|number| *number), &written), "{number}");
+
+        let expected = if cfg!(debug_assertions) { checked } else { unchecked };
+        match (oracle::pack(&numbers, list.lookahead as usize), &expected) {
+            (Answer(rust), Packs::As(these, announced, read)) => {
+                assert_eq!((rust.template, rust.payload.clone()), octets(these), "{number}: the Rust");
+                assert_eq!((rust.announced, rust.missing_values), (*announced, [u32::MAX; 2]), "{number}: the Rust");
+                match (oracle::unpack_complex(&rust.template, &rust.payload), read) {
+                    (Answer(points), Ok(count)) => assert_eq!(points.len(), *count, "{number}: the Rust reads"),
+                    (Refused(said), Err(expected)) => assert_eq!(said, *expected, "{number}: the Rust reads"),
+                    (other, _) => panic!("{number}: the Rust reads {other:?}"),
+                }
+            }
+            (Panicked, Packs::Not) => {}
+            (other, _) => panic!("{number}: the Rust is not as expected, {expected:?}, but {other:?}"),
+        }
+    }
+}
+
+/// 33: the Rust answers with lists of its own.
+#[test]
+fn packing_has_lent_buffers() {
+    let numbers = numbers_as_octets(&[1]);
+    let room = |groups: usize, payload: usize, summary: usize| {
+        let (mut groups, mut payload, mut summary) = (vec![0; groups], vec![0; payload], vec![0; summary]);
+        pack_into(1, &numbers, &mut groups, &mut payload, &mut summary).map_or_else(|refusal| refusal.number(), |_| 0)
+    };
+    assert_eq!((room(16, 1, SUMMARY_OCTETS), room(16, 1, 39)), (0, 10));
+    assert_eq!((room(15, 1, SUMMARY_OCTETS), room(16, 0, SUMMARY_OCTETS)), (10, 10));
+    assert!(matches!(oracle::pack(&[1], 1), Answer(_)));
+}
+
+/// No difference: a list of equal numbers is one group to both, where the Rust does not take its own path for such
+/// data.
+#[test]
+fn equal_numbers_are_one_group() {
+    let Answer(rust) = oracle::pack(&[5; 7], 3) else { panic!("the Rust packs equal numbers") };
+    let ours = pack(&[5; 7], 3).expect("so does ours");
+    assert_eq!((rust.template, &rust.payload), (ours.template, &ours.payload));
+    assert_eq!(ours.template, Template { last_length: 7, ..template([3, 1, 0, 0, 0, 0, 0, 0]) });
 }

@@ -2,7 +2,9 @@
 //! timed.
 //!
 //! `bench [OPERATION] [--points N]` times one operation or all, on maps of N points, 1,000,000 without the option. Those
-//! that begin with `real_` unpack the real maps of samples/, which have the points that they have.
+//! that begin with `real_` unpack the real maps of samples/, which have the points that they have. Those that begin
+//! with `pack_` pack numbers: a number after it is the lookahead, on the numbers of a made map; a word names a list
+//! that is hard to group, at the greatest lookahead or, for `comb`, at the one that is hardest for it.
 //! With `--only-ours` or `--only-rust` it makes one call and times nothing, for a tool that counts instructions.
 //!
 //! An operation is a type that is an `Operation`, and a line in `OPERATIONS`.
@@ -31,12 +33,13 @@ mod bench {
     use std::hint::black_box;
     use std::time::Instant;
 
-    use cleatmow::maps::{ComplexMap, RunLengthMap, gust_differences, gusts, rain};
+    use cleatmow::maps::{self, ComplexMap, RunLengthMap, gust_differences, gust_numbers, gusts, rain};
     use cleatmow::{
-        LEVEL_OCTETS, MOST_POINTS, POINT_OCTETS, Point, points_in, run_length, run_length_into, unpack_complex,
+        GREATEST_LOOKAHEAD, GROUP_OCTETS, LEVEL_OCTETS, MOST_POINTS, POINT_OCTETS, Packing, Point, SUMMARY_OCTETS,
+        Summary, groups_in, numbers_as_octets, pack, pack_into, points_in, run_length, run_length_into, unpack_complex,
         unpack_complex_into, unpack_spatial, unpack_spatial_into,
     };
-    use oracle::{Outcome, Section7, rust_run_length, rust_unpack_complex, rust_unpack_spatial};
+    use oracle::{Outcome, Packed, Section7, rust_pack, rust_run_length, rust_unpack_complex, rust_unpack_spatial};
 
     use crate::section5::Section5;
 
@@ -52,7 +55,7 @@ mod bench {
 
     /// Every operation, by a name of this program's own. `bench.sh` says which C call and which function of the oracle
     /// are behind it.
-    const OPERATIONS: [(&str, Run); 7] = [
+    const OPERATIONS: [(&str, Run); 18] = [
         ("run_length", |name, options| bench(name, RunLength::new(options.points), options)),
         ("unpack_complex", |name, options| bench(name, Unpacking::new(gusts(options.points)), options)),
         ("unpack_spatial_1", |name, options| bench(name, Unpacking::new(gust_differences(1, options.points)), options)),
@@ -60,6 +63,18 @@ mod bench {
         ("real_gust", |name, options| bench(name, Unpacking::new(real!("gfs-gust-144x73")), options)),
         ("real_conus", |name, options| bench(name, Unpacking::new(real!("ndfd-conus-1073x689")), options)),
         ("real_puerto_rico", |name, options| bench(name, Unpacking::new(real!("ndfd-puerto-rico-339x224")), options)),
+        ("pack_8", |name, options| bench(name, BesideTheRust::new(gust_numbers(options.points), 8, 1), options)),
+        ("pack_64", |name, options| bench(name, BesideTheRust::new(gust_numbers(options.points), 64, 1), options)),
+        // On all numbers the Rust would take a minute and a half.
+        ("pack_1024", |name, options| bench(name, BesideTheRust::new(gust_numbers(options.points), 1024, 16), options)),
+        ("pack_65535", |name, options| hard(name, gust_numbers, GREATEST_LOOKAHEAD, options)),
+        ("pack_rising", |name, options| hard(name, maps::rising, GREATEST_LOOKAHEAD, options)),
+        ("pack_sawtooth", |name, options| hard(name, maps::sawtooth, GREATEST_LOOKAHEAD, options)),
+        ("pack_patches", |name, options| hard(name, maps::patches, GREATEST_LOOKAHEAD, options)),
+        ("pack_alternating", |name, options| hard(name, maps::alternating, GREATEST_LOOKAHEAD, options)),
+        ("pack_doubling", |name, options| hard(name, maps::doubling, GREATEST_LOOKAHEAD, options)),
+        ("pack_spikes", |name, options| hard(name, maps::spikes, GREATEST_LOOKAHEAD, options)),
+        ("pack_comb", |name, options| hard(name, maps::comb, 29, options)),
     ];
 
     /// The host's tests hold its points to their digests; here they are what the Rust makes of it.
@@ -77,26 +92,47 @@ mod bench {
         ComplexMap { template, differences, declared: section_5.declared(), payload, points }
     }
 
+    /// A list that the Rust would take too long for, or that ours might.
+    fn hard(name: &str, list: fn(u32) -> Vec<u32>, lookahead: u32, options: &Options) {
+        let list = List::new(list(options.points), lookahead);
+        let map = List::new(gust_numbers(options.points), 8);
+        bench(name, BesideItself { list, map }, options);
+    }
+
     /// Does with an operation of this name what the options say.
     type Run = fn(&str, &Options);
 
-    /// An operation with its map and a buffer to lend. The calls are timed; what they answer is freed after that.
+    /// An operation with its input and buffers to lend. The calls are timed; what they answer is freed after that.
     trait Operation {
-        type Answer: PartialEq;
+        type Answer;
+        /// What the other side answers.
+        type Other;
 
-        /// The C call, on the lent buffer.
+        /// The C call, on the lent buffers.
         fn ours_lent(&mut self);
-        /// The host's wrapper, which lends a buffer of its own and answers a list.
+        /// The host's wrapper, which lends buffers of its own and answers a list.
         fn ours_new(&self) -> Self::Answer;
-        /// The Rust, which answers a list.
-        fn rust(&self) -> Self::Answer;
+        /// What ours is timed beside.
+        fn other(&mut self) -> Self::Other;
 
-        /// What stands in the lent buffer.
+        /// What stands in the lent buffers.
         fn left(&self) -> Self::Answer;
-        /// What every call must give.
-        fn right(&self) -> &Self::Answer;
+        fn is_right(&self, answer: &Self::Answer) -> bool;
+        fn other_is_right(&self, answer: &Self::Other) -> bool;
         /// The points and the octets of the packed map.
         fn size(&self) -> (u32, usize);
+        /// Which is the other side: the Rust on the same points, unless said.
+        fn beside(&self) -> Beside {
+            Beside::Rust(self.size().0)
+        }
+    }
+
+    /// The other side, and on how many points it is timed.
+    enum Beside {
+        /// The Rust, which answers a list.
+        Rust(u32),
+        /// Ours at lookahead 8 on the made map, on lent buffers.
+        AtEight(u32),
     }
 
     struct RunLength {
@@ -112,6 +148,7 @@ mod bench {
 
     impl Operation for RunLength {
         type Answer = Vec<u16>;
+        type Other = Vec<u16>;
 
         fn ours_lent(&mut self) {
             let RunLengthMap { bits, max_level, declared, ref payload, .. } = self.map;
@@ -124,7 +161,7 @@ mod bench {
             run_length(bits, max_level, declared, black_box(payload)).expect("a good map")
         }
 
-        fn rust(&self) -> Vec<u16> {
+        fn other(&mut self) -> Vec<u16> {
             let RunLengthMap { bits, max_level, declared, ref payload, .. } = self.map;
             rust_run_length(bits, max_level, declared as usize, black_box(payload)).expect("a good map")
         }
@@ -133,8 +170,12 @@ mod bench {
             self.levels.chunks_exact(LEVEL_OCTETS).map(|level| u16::from_be_bytes([level[0], level[1]])).collect()
         }
 
-        fn right(&self) -> &Vec<u16> {
-            &self.map.levels
+        fn is_right(&self, levels: &Vec<u16>) -> bool {
+            *levels == self.map.levels
+        }
+
+        fn other_is_right(&self, levels: &Vec<u16>) -> bool {
+            self.is_right(levels)
         }
 
         fn size(&self) -> (u32, usize) {
@@ -160,6 +201,7 @@ mod bench {
 
     impl Operation for Unpacking {
         type Answer = Vec<Point>;
+        type Other = Vec<Point>;
 
         fn ours_lent(&mut self) {
             let ComplexMap { ref template, ref differences, declared, ref payload, .. } = self.map;
@@ -182,7 +224,7 @@ mod bench {
             .expect("a good map")
         }
 
-        fn rust(&self) -> Vec<Point> {
+        fn other(&mut self) -> Vec<Point> {
             let ComplexMap { ref template, ref differences, .. } = self.map;
             let section = black_box(&self.section);
             match differences {
@@ -196,12 +238,163 @@ mod bench {
             points_in(&self.points).collect()
         }
 
-        fn right(&self) -> &Vec<Point> {
-            &self.map.points
+        fn is_right(&self, points: &Vec<Point>) -> bool {
+            *points == self.map.points
+        }
+
+        fn other_is_right(&self, points: &Vec<Point>) -> bool {
+            self.is_right(points)
         }
 
         fn size(&self) -> (u32, usize) {
             (self.map.declared, self.map.payload.len())
+        }
+    }
+
+    /// A list to pack, and buffers to lend.
+    struct List {
+        numbers: Vec<u32>,
+        octets: Vec<u8>,
+        lookahead: u32,
+        groups: Vec<u8>,
+        payload: Vec<u8>,
+        summary: [u8; SUMMARY_OCTETS],
+        /// What the last call answered.
+        answered: Option<Summary>,
+    }
+
+    impl List {
+        fn new(numbers: Vec<u32>, lookahead: u32) -> Self {
+            let octets = numbers_as_octets(&numbers);
+            // As many as are always enough.
+            let (groups, payload) = (vec![0; numbers.len() * GROUP_OCTETS], vec![0; 10 * numbers.len() + 4]);
+            Self { numbers, octets, lookahead, groups, payload, summary: [0; SUMMARY_OCTETS], answered: None }
+        }
+
+        fn lent(&mut self) {
+            let Self { lookahead, octets, groups, payload, summary, .. } = self;
+            let answered = pack_into(*lookahead, black_box(octets), groups, payload, summary);
+            self.answered = Some(answered.expect("a good list"));
+            black_box((&mut self.groups, &mut self.payload));
+        }
+
+        fn new_list(&self) -> Packing {
+            pack(black_box(&self.numbers), self.lookahead).expect("a good list")
+        }
+
+        fn left(&self) -> Packing {
+            let Summary { template, group_count, payload_length } = self.answered.expect("a call before it");
+            let groups = groups_in(&self.groups[..group_count as usize * GROUP_OCTETS]).collect();
+            Packing { template, groups, payload: self.payload[..payload_length as usize].to_vec() }
+        }
+
+        /// The numbers and the octets that they are packed in; none yet before the first call.
+        fn size(&self) -> (u32, usize) {
+            (self.numbers.len() as u32, self.answered.map_or(0, |answered| answered.payload_length as usize))
+        }
+    }
+
+    /// Whether this is a packing of the numbers.
+    fn unpacks_to(packing: &Packing, numbers: &[u32]) -> bool {
+        let points = unpack_complex(&packing.template, numbers.len() as u32, &packing.payload);
+        points.is_ok_and(|points| {
+            points.iter().zip(numbers).all(|(point, number)| *point == Point::Number((*number).into()))
+        })
+    }
+
+    /// Packing beside the Rust, which is given the front of the list alone where it would take too long.
+    struct BesideTheRust {
+        list: List,
+        rust: usize,
+    }
+
+    impl BesideTheRust {
+        /// The Rust is given one part in so many.
+        fn new(numbers: Vec<u32>, lookahead: u32, parts: usize) -> Self {
+            Self { rust: numbers.len().div_ceil(parts), list: List::new(numbers, lookahead) }
+        }
+    }
+
+    impl Operation for BesideTheRust {
+        type Answer = Packing;
+        type Other = Packed;
+
+        fn ours_lent(&mut self) {
+            self.list.lent();
+        }
+
+        fn ours_new(&self) -> Packing {
+            self.list.new_list()
+        }
+
+        fn other(&mut self) -> Packed {
+            let numbers = black_box(&self.list.numbers[..self.rust]);
+            rust_pack(numbers, self.list.lookahead as usize).expect("a good list")
+        }
+
+        fn left(&self) -> Packing {
+            self.list.left()
+        }
+
+        fn is_right(&self, packing: &Packing) -> bool {
+            unpacks_to(packing, &self.list.numbers)
+        }
+
+        /// The groups alone: where its step is above 255 the rest is not right, as docs/DIFFERENCES.md says.
+        fn other_is_right(&self, packed: &Packed) -> bool {
+            let ours = pack(&self.list.numbers[..self.rust], self.list.lookahead);
+            ours.is_ok_and(|ours| ours.groups == packed.packing().groups)
+        }
+
+        fn size(&self) -> (u32, usize) {
+            self.list.size()
+        }
+
+        fn beside(&self) -> Beside {
+            Beside::Rust(self.rust as u32)
+        }
+    }
+
+    /// Packing beside packing at lookahead 8 on the made map.
+    struct BesideItself {
+        list: List,
+        map: List,
+    }
+
+    impl Operation for BesideItself {
+        type Answer = Packing;
+        type Other = ();
+
+        fn ours_lent(&mut self) {
+            self.list.lent();
+        }
+
+        fn ours_new(&self) -> Packing {
+            self.list.new_list()
+        }
+
+        fn other(&mut self) {
+            self.map.lent();
+        }
+
+        fn left(&self) -> Packing {
+            self.list.left()
+        }
+
+        fn is_right(&self, packing: &Packing) -> bool {
+            unpacks_to(packing, &self.list.numbers)
+        }
+
+        fn other_is_right(&self, (): &()) -> bool {
+            unpacks_to(&self.map.left(), &self.map.numbers)
+        }
+
+        fn size(&self) -> (u32, usize) {
+            self.list.size()
+        }
+
+        fn beside(&self) -> Beside {
+            Beside::AtEight(self.map.numbers.len() as u32)
         }
     }
 
@@ -252,20 +445,26 @@ mod bench {
         let calls = &options.calls;
         if *calls != Calls::OnlyRust {
             operation.ours_lent();
-            assert!(operation.left() == *operation.right(), "{name}: ours is wrong");
+            assert!(operation.is_right(&operation.left()), "{name}: ours is wrong");
         }
         if *calls != Calls::OnlyOurs {
-            assert!(operation.rust() == *operation.right(), "{name}: the Rust is wrong");
+            let other = operation.other();
+            assert!(operation.other_is_right(&other), "{name}: what ours is timed beside is wrong");
         }
         if *calls != Calls::Timed {
-            println!("{name}: one call on {} points", operation.size().0);
+            let points = match (calls, operation.beside()) {
+                (Calls::OnlyOurs, _) => operation.size().0,
+                (_, Beside::Rust(points)) => points,
+                (_, Beside::AtEight(_)) => panic!("{name}: the Rust is left out"),
+            };
+            println!("{name}: one call on {points} points");
             return;
         }
-        assert!(operation.ours_new() == *operation.right(), "{name}: ours is wrong as a list");
+        assert!(operation.is_right(&operation.ours_new()), "{name}: ours is wrong as a list");
         time(name, &mut operation);
     }
 
-    /// How often each form of ours is timed. The Rust is timed after each of them, so twice as often.
+    /// How often each form of ours is timed. The other side is timed after each of them, so twice as often.
     const REPETITIONS: usize = 51;
 
     /// The C library keeps what is freed once a block of this size was (glibc: the threshold follows the largest block,
@@ -274,21 +473,33 @@ mod bench {
 
     fn time(name: &str, operation: &mut impl Operation) {
         drop(black_box(vec![1_u8; KEPT]));
-        let (mut lent, mut new, mut rust) = (Times::default(), Times::default(), Times::default());
+        let (mut lent, mut new, mut other) = (Times::default(), Times::default(), Times::default());
         for _ in 0..REPETITIONS {
             lent.add(|| operation.ours_lent());
-            rust.add(|| operation.rust());
+            other.add(|| operation.other());
             new.add(|| operation.ours_new());
-            rust.add(|| operation.rust());
+            other.add(|| operation.other());
         }
         let (points, octets) = operation.size();
         println!("{name}: {points} points in {octets} octets, nanoseconds a point");
         let new = new.report("ours, new list", points);
         let lent = lent.report("ours, lent buffer", points);
-        let rust = rust.report("Rust, new list", points);
-        println!("  ours / Rust, by the medians:");
-        println!("    {:.2} new list: both allocate", new / rust);
-        println!("    {:.2} lent buffer: the Rust alone allocates", lent / rust);
+        match operation.beside() {
+            Beside::Rust(on) => {
+                let rust = other.report("Rust, new list", on);
+                if on < points {
+                    println!("  the Rust packs the first {on} alone: all of them would take it too long");
+                }
+                println!("  ours / Rust, by the medians:");
+                println!("    {:.2} new list: both allocate", new / rust);
+                println!("    {:.2} lent buffer: the Rust alone allocates", lent / rust);
+            }
+            Beside::AtEight(on) => {
+                let eight = other.report("ours, map, at 8", on);
+                println!("  the Rust is left out: at the greatest lookahead it would take too long");
+                println!("  ours / ours on the map at lookahead 8, lent buffers, by the medians: {:.2}", lent / eight);
+            }
+        }
     }
 
     /// How long each call took, in nanoseconds.

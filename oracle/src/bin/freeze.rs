@@ -1,5 +1,6 @@
 //! Writes the frozen answers: what the Rust makes of inputs that are the same in every run. `freeze FILE` writes them
-//! to FILE, rows of 64 octets and nothing else, and prints how many rows there are of each kind.
+//! to FILE, rows of 64 octets and nothing else, and prints how many rows there are of each kind. A row of packing is
+//! longer: 448 octets, seven times 64.
 //!
 //! Octet 0 is the row's kind, numbers are big-endian, and octets without a meaning are 0.
 //!
@@ -11,6 +12,9 @@
 //! - Kinds 4 and 5, unpacking under 5.2 and 5.3: 1 declared count; 2 to 11 the template numbers in the order of the C
 //!   call, one octet each, and 12 and 13 the two that 5.3 has besides; 14 length of the payload, 0 to 12; 15 document
 //!   01's number for the refusal, or 0; 16 to 27 the payload; from 28 the points, at most four, nine octets each.
+//! - Kind 6, packing: 1 count of numbers, 1 to 15; 2 and 3 lookahead; from 4 the numbers, four octets each, to the end
+//!   of the first 64 octets. Then what the C call leaves in lent octets that were 0: 64 to 103 the summary; 104 to 207
+//!   the payload; from 208 the groups, sixteen octets each.
 
 #[cfg(not(have_text))]
 fn main() {
@@ -21,23 +25,29 @@ fn main() {
 fn main() -> std::io::Result<()> {
     let path = std::env::args().nth(1).expect("usage: freeze FILE");
     let kinds = [
-        ("bit reader", frozen::reads()),
-        ("bit writer", frozen::writes()),
-        ("run-length", frozen::run_lengths()),
-        ("unpacking under 5.2", frozen::unpackings(false)),
-        ("unpacking under 5.3", frozen::unpackings(true)),
+        counted("bit reader", frozen::reads()),
+        counted("bit writer", frozen::writes()),
+        counted("run-length", frozen::run_lengths()),
+        counted("unpacking under 5.2", frozen::unpackings(false)),
+        counted("unpacking under 5.3", frozen::unpackings(true)),
+        counted("packing", frozen::packings()),
     ];
-    for (kind, rows) in &kinds {
-        println!("frozen: {} rows of {kind}", rows.len());
-    }
-    std::fs::write(path, kinds.map(|(_, rows)| rows.concat()).concat())?;
+    std::fs::write(path, kinds.concat())?;
     Ok(())
+}
+
+/// Prints how many rows there are, and puts them end to end.
+#[cfg(have_text)]
+fn counted<const OCTETS: usize>(kind: &str, rows: Vec<[u8; OCTETS]>) -> Vec<u8> {
+    println!("frozen: {} rows of {kind}", rows.len());
+    rows.concat()
 }
 
 #[cfg(have_text)]
 mod frozen {
     use oracle::Outcome::{Answer, Panicked, Refused};
     use oracle::dice::Dice;
+    use oracle::packing::{GREATEST_LOOKAHEAD, Shape, group_octets, summary_octets};
     use oracle::runs::{Coding, MOST_POINTS, refusal_for};
     use oracle::unpacking::{Input, Reading, Size, octets_of, refusals_for};
     use oracle::{Differences, Point, Template};
@@ -274,6 +284,44 @@ mod frozen {
             None => oracle::unpack_complex(&input.template, &input.payload),
             Some(differences) => oracle::unpack_spatial(&input.template, differences, &input.payload),
         }
+    }
+
+    /// A row of packing.
+    type LongRow = [u8; 448];
+
+    /// How many rows there are of each shape at each lookahead.
+    const OF_EACH_SHAPE: usize = 10;
+
+    /// Lists of every shape at many lookaheads. All their steps are small enough for the Rust.
+    pub fn packings() -> Vec<LongRow> {
+        let mut dice = Dice::new(6);
+        let mut rows = Vec::new();
+        for lookahead in (1..=20).chain([64, 1024, GREATEST_LOOKAHEAD]) {
+            for shape in Shape::ALL {
+                for _ in 0..OF_EACH_SHAPE {
+                    let count = 1 + dice.below(15) as usize;
+                    let numbers = shape.list(&mut dice, count, 6);
+                    rows.push(packing_row(&numbers, lookahead));
+                }
+            }
+        }
+        rows
+    }
+
+    fn packing_row(numbers: &[u32], lookahead: u32) -> LongRow {
+        let Answer(packing) = oracle::pack(numbers, lookahead as usize) else {
+            panic!("the Rust packs every list that has a number");
+        };
+        let oracle::Packing { template, groups, payload, .. } = packing;
+        let mut row = [0; 448];
+        row[0] = 6;
+        row[1] = numbers.len() as u8;
+        put(&mut row[2..4], (lookahead as u16).to_be_bytes().into_iter());
+        put(&mut row[4..64], numbers.iter().copied().flat_map(u32::to_be_bytes));
+        put(&mut row[64..104], summary_octets(&template, groups.len(), payload.len()).into_iter());
+        put(&mut row[104..208], payload.into_iter());
+        put(&mut row[208..], groups.iter().flat_map(group_octets));
+        row
     }
 
     /// Panics where there is no room.

@@ -3,7 +3,7 @@
 use super::writer::NBitwise;
 use crate::WriteToBuffer;
 
-pub(crate) use super::complex::door::pack;
+pub(crate) use super::complex::door::{Packed, pack};
 
 pub(crate) fn write_bits(
     numbers: &[u32],

@@ -6,6 +6,8 @@
 //! - `compare run_length BITS MAX_LEVEL DECLARED PAYLOAD`
 //! - `compare unpack_complex` and the numbers of the C call in its order, the octets that are lent, the payload
 //! - `compare unpack_spatial`, likewise
+//! - `compare pack LOOKAHEAD NUMBERS`, the numbers in hexadecimal too, four octets each; and, where it is not just
+//!   enough, the octets that are lent for groups, payload and summary
 //!
 //! An operation is a module with an `Input` that prints and reads itself, `judge` and `compare`, and a line here.
 
@@ -14,6 +16,8 @@ fn main() {
     println!("{}", oracle::NOT_RUN);
 }
 
+#[cfg(have_text)]
+mod packing;
 #[cfg(have_text)]
 mod run_length;
 #[cfg(have_text)]
@@ -32,9 +36,9 @@ fn main() -> std::process::ExitCode {
     let agreed = match words[..] {
         // Each prints its table, whatever the one before it found.
         [] => {
-            let operations: [fn() -> tally::Tally; 3] =
-                [run_length::compare, unpacking::compare_complex, unpacking::compare_spatial];
-            operations.map(|compare| compare().report()) == [true; 3]
+            let operations: [fn() -> tally::Tally; 4] =
+                [run_length::compare, unpacking::compare_complex, unpacking::compare_spatial, packing::compare];
+            operations.map(|compare| compare().report()) == [true; 4]
         }
         ["run_length", ref input @ ..] => {
             let input = run_length::Input::from_words(input).expect("see the top of this file");
@@ -43,6 +47,10 @@ fn main() -> std::process::ExitCode {
         [operation @ ("unpack_complex" | "unpack_spatial"), ref input @ ..] => {
             let input = unpacking::Shown::from_words(operation, input).expect("see the top of this file");
             judged(&input, unpacking::Judge::default().judge(&input.0))
+        }
+        ["pack", ref input @ ..] => {
+            let input = packing::Input::from_words(input).expect("see the top of this file");
+            judged(&input, packing::judge(&input))
         }
         _ => panic!("see the top of this file"),
     };

@@ -22,9 +22,16 @@ pub struct Tally {
     different: u64,
 }
 
+/// How many inputs of a stage have to come out so: a comparison of nothing is none.
+pub struct Asked {
+    pub accepted: u64,
+    pub refused: u64,
+    pub outside: u64,
+}
+
 struct Stage {
     name: &'static str,
-    required: u64,
+    asked: Asked,
     accepted: u64,
     refused: u64,
     outside: u64,
@@ -39,9 +46,13 @@ impl Tally {
     }
 
     /// What is counted from here on is of this stage, in which both have to accept `required` inputs and to refuse as
-    /// many: a comparison of nothing is none.
+    /// many.
     pub fn stage(&mut self, name: &'static str, required: u64) {
-        self.stages.push(Stage { name, required, accepted: 0, refused: 0, outside: 0 });
+        self.stage_asking(name, Asked { accepted: required, refused: required, outside: 0 });
+    }
+
+    pub fn stage_asking(&mut self, name: &'static str, asked: Asked) {
+        self.stages.push(Stage { name, asked, accepted: 0, refused: 0, outside: 0 });
     }
 
     pub fn count(&mut self, input: &impl Display, verdict: Verdict) {
@@ -67,10 +78,11 @@ impl Tally {
         println!("{:<32}{:>12}{:>12}{:>12}", self.operation, "accepted", "refused", "outside");
         let mut enough = true;
         for stage in &self.stages {
-            let Stage { name, required, accepted, refused, outside } = stage;
+            let Stage { name, asked, accepted, refused, outside } = stage;
             println!("  {name:<30}{accepted:>12}{refused:>12}{outside:>12}");
-            if accepted.min(refused) < required {
-                println!("  TOO FEW: {required} accepted and {required} refused are asked for");
+            if *accepted < asked.accepted || *refused < asked.refused || *outside < asked.outside {
+                let Asked { accepted, refused, outside } = asked;
+                println!("  TOO FEW: {accepted} accepted, {refused} refused and {outside} outside are asked for");
                 enough = false;
             }
         }
