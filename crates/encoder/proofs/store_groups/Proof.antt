@@ -28,7 +28,10 @@ returns : tie.Need-returns Inv-loop μ-loop
 returns c = filling-full _ _ groupOctets groupSize group-size (c .before .before .loop .inv) (c .if1 .taken) (omega (arith, c .before .before .before .count-of .ensures))
 
 next-group-requires : tie.Need-next-group-requires Inv-loop μ-loop
-next-group-requires c κs = (c .before .before .before .before .before .before .pre, omega (arith, c .before .before .before .count-of .ensures))
+next-group-requires c κs =
+    let limits = c .before .before .before .before .before .before .pre in
+    (record { few = limits .few; ahead = omega (arith, limits .ahead); near = omega (arith, limits .near); added = omega arith },
+    omega (arith, c .before .before .before .count-of .ensures))
 
 store-group-requires : tie.Need-store-group-requires Inv-loop μ-loop
 store-group-requires c κs = omega arith
