@@ -1,13 +1,13 @@
 -- The numbers of the first groups that lie in octets. Assumes nothing.
-use mathlib.Core.Path.{_≡_, refl, ap, _∙_}
+use mathlib.Core.Path.{_≡_, ap, _∙_}
 use mathlib.Core.List.{List, [], _∷_, _++_, map}
-use Prim.Native.Nat.{ℕ, zero, suc, _+_, _-_, _<_, _≤_}
+use Prim.Native.Nat.{ℕ, _+_, _-_, _<_, _≤_}
 use native.Mathlib.Omega.{arith}
 use lib.ListN.{length, getD}
 use Rattle.format.specs.Lists.{listed, greatest, least}
 use Rattle.format.specs.Layout.{groupAt, groupsIn}
 use Rattle.format.specs.declared.Group.{Group}
-use Rattle.laws.specs.Lists.{listed-more, length-listed, getD-listed}
+use Rattle.laws.specs.Lists.{map-listed, listed-more, length-listed, getD-listed}
 use Rattle.laws.specs.Extremes.{greatest-snoc, least-snoc, least-lower, least-greatest}
 use Rattle.numbers.specs.declared.Field.{Field}
 use Rattle.numbers.specs.declared.Window.{Window}
@@ -21,11 +21,6 @@ pub greatest-less : (r : ℕ) (xs : List ℕ) → greatest (map (λ n. n - r) xs
 unfolding greatest
 greatest-less r [] = omega arith
 greatest-less r (x ∷ xs) = omega (arith, greatest-less r xs)
-
-map-listed : {A B : Type 0} (g : A → B) (n : ℕ) (f : ℕ → A) → map g (listed n f) ≡ listed n (λ i. g (f i))
-unfolding listed
-map-listed g zero f = refl
-map-listed {B = B} g (suc n) f = ap (λ (l : List B). g (f 0) ∷ l) (map-listed g n (λ i. f (suc i)))
 
 module _ (xs : List ℕ) {w : Window} (e : w ≡ windowOf xs) where
   pub window-least : w .least ≤ least xs

@@ -1,26 +1,25 @@
 -- What is packed from the records of the groups is what document 01 makes of the groups. Assumes nothing.
 use mathlib.Core.Path.{_≡_, refl, sym, ap, ap₂, _∙_}
 use mathlib.Core.List.{List, [], _∷_, _++_, map, flatMap}
-use Prim.Native.Nat.{ℕ, zero, suc, _+_, _-_, _*_, _/_, _^_, _≤_, _<_}
-use native.Mathlib.Nat.{mul-le-mul-left, add-mul}
+use Prim.Native.Nat.{ℕ, suc, _+_, _-_, _*_, _/_, _^_, _≤_, _<_}
+use native.Mathlib.Nat.{mul-le-mul-left}
 use native.Mathlib.Omega.{arith}
-use lib.ListN.{length, getD, drop, length-append}
-use Rattle.format.specs.Lists.{listed, greatest, least}
-use Rattle.format.specs.Bits.{stringOf, roundedUp}
+use lib.ListN.{length, getD, length-append}
+use Rattle.format.specs.Lists.{greatest, least}
+use Rattle.format.specs.Bits.{stringOf}
 use Rattle.format.specs.Layout.{inFours, groupNumbers, groupSize, groupAt, groupsIn}
-use Rattle.format.specs.Grouping.{bits, widthOf, groupsOf, groups01, recordsFrom}
-use Rattle.format.specs.Packing.{padded, widthCoding, lengthCoding, lengthCodes, butLast, templateOf, valueString, payloadOf}
+use Rattle.format.specs.Grouping.{bits, widthOf, recordsFrom}
+use Rattle.format.specs.Packing.{padded, lengthCodes, butLast, templateOf, valueString, payloadOf}
 use Rattle.format.specs.declared.Group.{Group}
 use Rattle.format.specs.declared.Lengths.{Lengths}
 use Rattle.format.specs.declared.Template.{Template}
 use Rattle.format.specs.declared.Widths.{Widths}
 use Rattle.laws.specs.Lists.{length-map, length-listed, getD-listed}
 use Rattle.laws.specs.Strings.{length-string}
-use Rattle.laws.specs.Digits.{bits-le}
 use Rattle.laws.specs.Groups.{allOf, NoneEmpty, length-records, records-map, RecordOf, record-of, Fits, groups-read-back}
-use Rattle.numbers.specs.Records.{numberOf, codedTemplate}
+use Rattle.numbers.specs.Records.{numberOf}
 use Rattle.numbers.specs.declared.Field.the-variants as field
-use Rattle.section7.specs.Parts.{numbersOf, valueStringOf, Valued, Sound, payloadIn}
+use Rattle.section7.specs.Parts.{valueStringOf, Valued, Sound, payloadIn}
 use Rattle.section7.proofs.Values.{least-upto, values-wide}
 use Rattle.section7.proofs.Aligned.{length-padded}
 use Rattle.section7.proofs.Payload.{width-top, widths-top, lengths-top}

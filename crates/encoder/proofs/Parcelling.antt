@@ -5,10 +5,10 @@ use Prim.Native.Nat.{ℕ, _*_, _^_, _≤_, _<_}
 use native.Mathlib.Nat.{le-trans, mul-le-mul-right, div-mul-le-self}
 use native.Mathlib.Omega.{arith}
 use lib.Dec.{ltb}
-use lib.ListN.{length, take, drop}
+use lib.ListN.{length, take}
 use Rattle.format.specs.Lists.{greatest, _over_}
 use Rattle.format.specs.Layout.{inFours, wholeOnes, groupNumbers, groupSize, groupsIn}
-use Rattle.format.specs.Refusals.{Row, _gives_, first, Left, left, refusalNumber}
+use Rattle.format.specs.Refusals.{_gives_, first, Left, left}
 use Rattle.format.specs.Grouping.{widthOf, groups01, recordsFrom, numberRefusals}
 use Rattle.format.specs.Packing.{templateOf, payloadOf, packingOf, templateNumbers, summarySize, Parcelled, pack}
 use Rattle.format.specs.declared.Group.{Group}
@@ -22,7 +22,7 @@ use Rattle.format.specs.declared.Template.{Template}
 use Rattle.laws.specs.First.{Gives, Clear, decides, clears, passed, first-joined, first-through, tests}
 use Rattle.laws.specs.Lists.{length-over}
 use Rattle.laws.specs.Stores.{length-flat}
-use Rattle.laws.specs.Groups.{groups-all, groups-none-empty, length-records}
+use Rattle.laws.specs.Groups.{groups-all, groups-none-empty}
 use Rattle.grouping.specs.Rule.{groupsLent}
 use Rattle.grouping.proofs.Filling.{groups-some}
 use Rattle.encoder.specs.Whole.{groupOctets, templateIn, octetsIn, Packable, Rest, rest}

@@ -1,11 +1,11 @@
 -- From the stored records to the payload and the summary. Assumes nothing.
 use mathlib.Core.Path.{_≡_, refl, sym, ap, _∙_}
 use mathlib.Core.List.{List}
-use Prim.Native.Nat.{ℕ, _<_, _≤_, _^_}
+use Prim.Native.Nat.{ℕ, _<_, _^_}
 use native.Mathlib.Omega.{arith}
 use lib.ListN.{length}
 use Rattle.format.specs.Lists.{greatest, _over_}
-use Rattle.format.specs.Layout.{inFours, groupAt, groupsIn}
+use Rattle.format.specs.Layout.{inFours}
 use Rattle.format.specs.Refusals.{Left, left}
 use Rattle.format.specs.declared.Group.{Group}
 use Rattle.format.specs.declared.OctetPlace.{OctetPlace}
@@ -15,13 +15,12 @@ use Rattle.format.specs.declared.Refusal.{Refusal}
 use Rattle.format.specs.declared.Stored.{Stored}
 use Rattle.format.specs.declared.Stored.the-variants as stored
 use Rattle.format.specs.declared.Template.{Template}
-use Rattle.format.specs.Grouping.{widthOf}
 use Rattle.laws.specs.First.{passed, first-through}
 use Rattle.coding.specs.Codes.{Coded}
 use Rattle.numbers.specs.Records.{codedTemplate}
 use Rattle.section7.specs.Parts.{Sound, payloadIn, payloadLent}
 use Rattle.section7.proofs.Values.{values-wide}
-use Rattle.encoder.specs.Whole.{summaryOf, templateIn, octetsIn, Packable, Rest, rest}
+use Rattle.encoder.specs.Whole.{summaryOf, templateIn, octetsIn, Rest, rest}
 
 -- what the payload's outcome is made: the answer, and the summary
 abbrev packedBy : Template → Stored → Packed

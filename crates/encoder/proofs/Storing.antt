@@ -6,7 +6,7 @@ use native.Mathlib.Numerals.{add-one}
 use native.Mathlib.Omega.{arith}
 use lib.ListN.{length, getD, take}
 use lib.Seq.{sets, length-sets, length-take-le, take-all, take-suc}
-use Rattle.format.specs.Lists.{listed, _over_}
+use Rattle.format.specs.Lists.{_over_}
 use Rattle.format.specs.Layout.{bigEndian, inFours, groupNumbers, groupSize}
 use Rattle.format.specs.declared.Group.{Group}
 use Rattle.laws.specs.Lists.{length-listed}

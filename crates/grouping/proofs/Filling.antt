@@ -2,15 +2,15 @@
 use mathlib.Core.Path.{_≡_, refl, sym, ap, ap₂, _∙_}
 use mathlib.Core.Bool.{Bool, true, false, cond}
 use mathlib.Core.List.{List, [], _∷_, _++_, flatMap, append-nil}
-use Prim.Native.Nat.{ℕ, zero, suc, _+_, _-_, _*_, _/_, _≤_, _<_}
+use Prim.Native.Nat.{ℕ, _+_, _-_, _*_, _≤_, _<_}
 use native.Mathlib.Nat.{mul-le-mul-right, div-mul-le-self, le-trans}
 use native.Mathlib.Numerals.{add-one}
 use native.Mathlib.Omega.{arith}
-use lib.ListN.{length, getD, take, drop, length-drop, drop-of-length-le}
+use lib.ListN.{length, take, drop, length-drop, drop-of-length-le}
 use lib.Seq.{slice, sets, length-sets, length-slice, length-take-le, take-all, take-add, drop-drop}
 use Rattle.format.specs.Lists.{least, _over_}
 use Rattle.format.specs.Layout.{wholeOnes}
-use Rattle.format.specs.Refusals.{left, refusalNumber}
+use Rattle.format.specs.Refusals.{left}
 use Rattle.format.specs.Grouping.{widthOf, endsBefore, groupsFrom, groupsOf, groups01, recordsFrom}
 use Rattle.format.specs.declared.Group.{Group}
 use Rattle.format.specs.declared.Grouped.the-variants as grouped

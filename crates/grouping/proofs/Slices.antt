@@ -1,11 +1,11 @@
 -- Parts in the middle of a list: one element more, and what a look-ahead takes. Assumes nothing.
-use mathlib.Core.Path.{_≡_, refl, sym, ap, _∙_}
+use mathlib.Core.Path.{_≡_, sym, ap, _∙_}
 use mathlib.Core.List.{List, [], _∷_, _++_}
-use Prim.Native.Nat.{ℕ, zero, suc, _+_, _-_, _≤_, _<_, min}
+use Prim.Native.Nat.{ℕ, _+_, _-_, _≤_, _<_, min}
 use native.Mathlib.Numerals.{add-one}
 use native.Mathlib.Omega.{arith, min-cases}
 use lib.ListN.{length, getD, take, drop, length-take, length-drop, drop-of-length-le, take-append-drop}
-use lib.Seq.{slice, slice-cons, length-slice, length-take-le, take-all, take-suc, take-take, take-add, drop-append-le}
+use lib.Seq.{slice, length-take-le, take-all, take-suc, take-take, drop-append-le}
 use Rattle.laws.specs.Lists.{take-of-drop}
 
 module _ {A : Type 0} (l : List A) where

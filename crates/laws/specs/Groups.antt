@@ -1,13 +1,13 @@
 -- The groups of a list and their records: nothing is lost, none is empty, and lent octets give them back. Assumes nothing.
 use mathlib.Core.Path.{_≡_, refl, sym, ap, ap₂, _∙_}
 use mathlib.Core.Bool.{Bool, true, false, cond}
-use mathlib.Core.List.{List, [], _∷_, _++_, append-assoc, append-nil, map, flatMap}
+use mathlib.Core.List.{List, [], _∷_, _++_, append-assoc, map, flatMap}
 use Prim.Native.Nat.{ℕ, zero, suc, _+_, _-_, _*_, _^_, _≤_, _<_}
 use native.Mathlib.Omega.{arith}
 use native.Mathlib.Nat.{add-zero}
 use lib.ListN.{length, getD, take, drop, length-append, length-drop}
 use lib.Seq.{slice, take-at, drop-at, drop-drop, ext-getD}
-use Rattle.format.specs.Lists.{listed, least, _over_}
+use Rattle.format.specs.Lists.{listed, least}
 use Rattle.format.specs.Bits.{numberAt}
 use Rattle.format.specs.Layout.{bigEndian, inFours, groupNumbers, groupAt, groupsIn}
 use Rattle.format.specs.Grouping.{widthOf, endsBefore, groupsFrom, groupsOf, recordsFrom}

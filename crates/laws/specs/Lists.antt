@@ -46,6 +46,11 @@ module _ {A : Type 0} where
   listed-same zero x = refl
   listed-same (suc n) x = ap (λ (l : List A). x ∷ l) (listed-same n x)
 
+pub map-listed : {A B : Type 0} (g : A → B) (n : ℕ) (f : ℕ → A) → map g (listed n f) ≡ listed n (λ i. g (f i))
+unfolding listed
+map-listed g zero f = refl
+map-listed {B = B} g (suc n) f = ap (λ (l : List B). g (f 0) ∷ l) (map-listed g n (λ i. f (suc i)))
+
 pub length-map : {A B : Type 0} (f : A → B) (xs : List A) → length (map f xs) ≡ length xs
 unfolding map
 length-map f [] = refl

@@ -9,7 +9,7 @@ use Rattle.format.specs.Lists.{listed}
 use Rattle.format.specs.Bits.{stringOf, roundedUp, spanOf}
 use Rattle.format.specs.Layout.{groupAt, groupsIn}
 use Rattle.format.specs.declared.Group.{Group}
-use Rattle.laws.specs.Lists.{length-listed, length-map}
+use Rattle.laws.specs.Lists.{map-listed, length-listed, length-map}
 use Rattle.laws.specs.Bits.{product}
 use Rattle.laws.specs.Strings.{length-string, string-append}
 use Rattle.laws.specs.Spans.{span-aligned}
@@ -19,7 +19,6 @@ use Rattle.writer.specs.declared.Pen.{Pen}
 use Rattle.writer.proofs.Pens.{moved-then, moved-ready}
 use Rattle.section7.specs.Parts.{codeOf, codesOf, Codable}
 use Rattle.section7.specs.declared.Coding.{Coding}
-use Rattle.section7.proofs.Listing.{map-listed}
 
 -- the octets of one number of each group
 pub spanned : {x w n r : ℕ} → (w ≡ x) × (w < 256) → r ≡ spanOf 0 w n → n ≤ 4194304 → x ≤ 32 → (r ≡ roundedUp (n * x)) × (r ≤ 16777216)

@@ -1,6 +1,6 @@
 -- What is listed: mapped, cut, joined, and between bounds. Assumes nothing.
 use mathlib.Core.Path.{_≡_, refl, sym, ap, _∙_}
-use mathlib.Core.List.{List, [], _∷_, map, flatMap, append-nil}
+use mathlib.Core.List.{List, [], _∷_, flatMap, append-nil}
 use Prim.Native.Nat.{ℕ, zero, suc, _+_, _-_, _/_, _≤_, _<_}
 use native.Mathlib.Nat.{le-trans, le-div-iff-mul-le, div-mul-le-self, div-zero}
 use native.Mathlib.Numerals.{add-one}
@@ -14,11 +14,6 @@ use Rattle.laws.specs.Extremes.{greatest-upper, least-lower}
 use Rattle.laws.specs.Stores.{flat-append}
 
 module _ {A : Type 0} where
-  pub map-listed : {B : Type 0} (g : A → B) (n : ℕ) (f : ℕ → A) → map g (listed n f) ≡ listed n (λ i. g (f i))
-  unfolding listed
-  map-listed g zero f = refl
-  map-listed {B} g (suc n) f = ap (λ (l : List B). g (f 0) ∷ l) (map-listed g n (λ i. f (suc i)))
-
   pub flat-listed : (g : A → List ℕ) (n : ℕ) (f : ℕ → A) → flatMap g (listed n f) ≡ joined n (λ i. g (f i))
   unfolding flatMap listed joined
   flat-listed g zero f = refl

@@ -22,7 +22,7 @@ use Rattle.format.specs.declared.OctetPlace.{OctetPlace}
 use Rattle.format.specs.declared.Places.{Places}
 use Rattle.format.specs.declared.Stored.the-variants as stored
 use Rattle.format.specs.declared.Template.{Template}
-use Rattle.laws.specs.Lists.{listed-ext}
+use Rattle.laws.specs.Lists.{map-listed, listed-ext}
 use Rattle.laws.specs.Bits.{bit-lt, number-lt}
 use Rattle.laws.specs.Digits.{bits-le, bits-within}
 use Rattle.laws.specs.Stores.{sets-append, sets-front}
@@ -30,7 +30,7 @@ use Rattle.numbers.specs.Records.{numberOf, codedTemplate}
 use Rattle.numbers.specs.declared.Field.the-variants.{References, Widths, Lengths}
 use Rattle.section7.specs.Parts.{codeOf, codesOf, valueStringOf, valueBits, Codable, Sound, Narrow, placesFor, payloadIn, payloadLent}
 use Rattle.section7.specs.declared.Coding.{Coding}
-use Rattle.section7.proofs.Listing.{map-listed, flat-listed, last-listed, greatest-at, least-at, greatest-upto, divided-le}
+use Rattle.section7.proofs.Listing.{flat-listed, last-listed, greatest-at, least-at, greatest-upto, divided-le}
 use Rattle.section7.proofs.Aligned.{length-padded}
 use Rattle.section7.proofs.Values.{values-wide, least-upto, size-all}
 use Rattle.section7.proofs.Codings.{codes-are, size-codes, size-last}

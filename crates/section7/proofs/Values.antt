@@ -10,7 +10,7 @@ use Rattle.format.specs.Bits.{stringOf, numberAt}
 use Rattle.format.specs.Layout.{numbersIn, groupAt}
 use Rattle.format.specs.Grouping.{widthOf}
 use Rattle.format.specs.declared.Group.{Group}
-use Rattle.laws.specs.Lists.{length-listed, total-next, total-upto, joined-next, length-joined, total-ext}
+use Rattle.laws.specs.Lists.{map-listed, length-listed, total-next, total-upto, joined-next, length-joined, total-ext}
 use Rattle.laws.specs.Bits.{bit-lt, number-lt}
 use Rattle.laws.specs.Strings.{length-string}
 use Rattle.laws.specs.Digits.{bits-le}
@@ -19,7 +19,7 @@ use Rattle.writer.specs.Pen.{Ready, Moved}
 use Rattle.writer.specs.declared.Pen.{Pen}
 use Rattle.writer.proofs.Pens.{moved-then, moved-ready}
 use Rattle.section7.specs.Parts.{numbersOf, valueStringOf, valueBits, Valued, Sound, Narrow}
-use Rattle.section7.proofs.Listing.{map-listed, slice-listed, greatest-upto}
+use Rattle.section7.proofs.Listing.{slice-listed, greatest-upto}
 
 -- ---- their bits
 

@@ -10,7 +10,6 @@ use Rattle.encoder.proofs.Resting.{coded, named, rest-short, rest-refus
 use borrow.Author.Needs.{needs}
 use Rattle.encoder.proofs.pack_groups.Statement.{statement}
 use Rattle.encoder.proofs.pack_groups.Tie as tie
-use Rattle.section7.proofs.write_section7.Reads as write-section7-reads
 
 template-of-requires : tie.Need-template-of-requires
 template-of-requires c κs = let start = c .before .before .before .before in coded (start .pre .sound) (start .pre .greatest) (omega arith)

@@ -29,9 +29,10 @@ returns c = filling-full _ _ groupOctets groupSize group-size (c .before .before
 
 next-group-requires : tie.Need-next-group-requires Inv-loop μ-loop
 next-group-requires c κs =
-    let limits = c .before .before .before .before .before .before .pre in
-    (record { few = limits .few; ahead = omega (arith, limits .ahead); near = omega (arith, limits .near); added = omega arith },
-    omega (arith, c .before .before .before .count-of .ensures))
+    let limits = c .before .before .before .before .before .before .pre in (
+      record { few = limits .few; ahead = omega (arith, limits .ahead); near = omega (arith, limits .near); added = omega arith },
+      omega (arith, c .before .before .before .count-of .ensures),
+    )
 
 store-group-requires : tie.Need-store-group-requires Inv-loop μ-loop
 store-group-requires c κs = omega arith
