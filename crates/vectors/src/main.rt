@@ -1,5 +1,6 @@
-// Replays frozen answers of the Rust crate: rows of 64 octets on standard input. The top of oracle/src/bin/freeze.rs says
-// how a row goes, and how the file was made. Writes how many rows there are, and how many are not answered as frozen.
+// Replays frozen answers of the Rust crate: rows on standard input, of 64 octets, and 448 where the row is of packing. The
+// top of oracle/src/bin/freeze.rs says how a row goes, and how the file was made. Writes how many rows there are, and how
+// many are not answered as frozen.
 ghost use mathlib.Core.Path.{_≡_};
 ghost use Prim.Native.Nat.{_+_, _*_, _<_, _≤_};
 use format::BitPlace;
@@ -183,6 +184,51 @@ fn as_frozen(row: &[u8]) -> bool {
     }
 }
 
+// The octets that packing a row's numbers must leave of zeros: 40 of the summary, 104 of the payload, and 240 of the
+// groups, room for one group a number. Each buffer is held to them as a whole, since "after success, places past the
+// answer are unchanged".
+fn packs_as_frozen(row: &[u8], frozen: &[u8]) -> bool {
+    if row.len() < 64 {
+        return false;
+    }
+    if frozen.len() < 384 {
+        return false;
+    }
+    let count = small(row[1]);
+    if 15 < count {
+        return false;
+    }
+    let lookahead = pair(row[2], row[3]);
+    let mut groups = [0u8; 240];
+    let mut payload = [0u8; 104];
+    let mut summary = [0u8; 40];
+    let number = cleatmow::cleatmow_pack(
+        lookahead as u32,
+        &row[4..4 + count * 4],
+        &mut groups,
+        &mut payload,
+        &mut summary,
+    );
+    if number != 0 {
+        return false;
+    }
+    check::same(&summary, &frozen[0..40])
+        && check::same(&payload, &frozen[40..144])
+        && check::same(&groups, &frozen[144..384])
+}
+
+// 0 where a row of packing is answered as frozen, else 1. Its answer is the 384 octets after it; a row without all of
+// them is not as frozen.
+fn next_packing(row: &[u8]) -> u64
+    ensures { λ r. ⌜ r ≤ 1 ⌝ }
+{
+    let mut frozen = [0u8; 384];
+    if io::read_full(STDIN_FILENO, &mut frozen) < 384 {
+        return 1;
+    }
+    if packs_as_frozen(row, &frozen) { 0 } else { 1 }
+}
+
 // How many of the next row's answers are not as frozen, 0 or 1; 2 where there is no further row.
 fn next_row() -> u64
     ensures { λ r. ⌜ r ≤ 2 ⌝ }
@@ -190,6 +236,9 @@ fn next_row() -> u64
     let mut row = [0u8; 64];
     if io::read_full(STDIN_FILENO, &mut row) < 64 {
         return 2;
+    }
+    if row[0] == 6 {
+        return next_packing(&row);
     }
     if as_frozen(&row) { 0 } else { 1 }
 }
