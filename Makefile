@@ -6,7 +6,8 @@ CARGO := cargo --offline --quiet
 .NOTPARALLEL:
 .PHONY: desk test host compare freeze bench check fmt clean
 
-# The main job. Until the desk command exists: prove every crate and run the programs on document 01's cases.
+# The main job. Until the desk command exists: prove every crate and run the programs on document 01's cases and the
+# frozen answers.
 desk:
 	@rt check
 	@echo "The desk command is not there yet; every crate is proved, and document 01's cases and the frozen answers ran."

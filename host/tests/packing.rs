@@ -570,6 +570,19 @@ fn equal_to_the_model_at_every_lookahead() {
 }
 
 /// Buffers of any size, with numbers and lookaheads that are refused among them.
+/// Equal numbers ahead end a group before them; the number behind them, once it is reached, keeps it open.
+#[test]
+fn a_long_look_ahead_ends_where_it_says() {
+    for equal in [1, 2, 100, GREATEST_LOOKAHEAD - 1] {
+        let mut numbers = vec![1; equal as usize + 2];
+        numbers[0] = 0;
+        numbers[equal as usize + 1] = 9;
+        let first = |lookahead| pack(&numbers, lookahead).expect("a good list").groups[0].length;
+        assert_eq!(first(equal), 1);
+        assert!(first(equal + 1) > 1);
+    }
+}
+
 #[test]
 fn equal_to_the_model_on_lent_buffers_by_chance() {
     let mut chance = Numbers::new(15);

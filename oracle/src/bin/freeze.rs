@@ -1,6 +1,5 @@
 //! Writes the frozen answers: what the Rust makes of inputs that are the same in every run. `freeze FILE` writes them
-//! to FILE, rows of 64 octets and nothing else, and prints how many rows there are of each kind. A row of packing is
-//! longer: 448 octets, seven times 64.
+//! to FILE and prints how many rows there are of each kind. A row is 64 octets, one of packing 448, seven times as many.
 //!
 //! Octet 0 is the row's kind, numbers are big-endian, and octets without a meaning are 0.
 //!
