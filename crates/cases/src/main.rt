@@ -1,31 +1,18 @@
-// Document 01's cases, and limits around them, run through the code as it is compiled. What each line must be stands in
-// `stdout`.
-ghost use Prim.Native.Nat.{_<_, _≤_};
+// Document 01's cases of unpacking and run-length, and limits around them, run through the code as it is compiled. What
+// each line must be stands in `stdout`.
+ghost use Prim.Native.Nat.{_≤_};
 ghost use lib.ListN.{length};
 use format::Differencing;
-use format::Grouped;
 use format::Lengths;
 use format::Part;
-use format::Refusal;
 use format::Template;
 use format::Widths;
 use libc::STDOUT_FILENO;
 
-fn show(number: u64) {
-    io::write_all(STDOUT_FILENO, b" ");
-    io::print_decimal(STDOUT_FILENO, number);
-}
-
-fn wide(x: u8) -> u64
-    ensures { λ r. ⌜ r < 256 ⌝ }
-{
-    x as u64
-}
-
 fn show_levels(levels: &[u8]) {
     let mut k = 0usize;
     while k < levels.len() / 2 {
-        show(wide(levels[k * 2]) * 256 + wide(levels[k * 2 + 1]));
+        showing::show(showing::wide(levels[k * 2]) * 256 + showing::wide(levels[k * 2 + 1]));
         k += 1;
     }
 }
@@ -33,24 +20,16 @@ fn show_levels(levels: &[u8]) {
 fn unroll(bits: u8, max_level: u16, declared: u32, payload: &[u8], levels: &mut [u8]) {
     let number = cleatmow::cleatmow_run_length(bits, max_level, declared, payload, levels);
     io::write_all(STDOUT_FILENO, b"run-length:");
-    show(number as u64);
+    showing::show(number as u64);
     io::write_all(STDOUT_FILENO, b";");
     show_levels(levels);
     io::write_all(STDOUT_FILENO, b"\n");
 }
 
-fn show_octets(octets: &[u8]) {
-    let mut k = 0usize;
-    while k < octets.len() {
-        show(wide(octets[k]));
-        k += 1;
-    }
-}
-
 fn show_part(template: Template, payload: &[u8], part: Part) {
     let octets = group_fields::part_complex(template, payload, part);
     io::write_all(STDOUT_FILENO, b";");
-    show_octets(octets);
+    showing::show_octets(octets);
 }
 
 // "Template numbers are listed as: number width; groups; width reference, width bits; length reference, increment,
@@ -110,16 +89,10 @@ fn show_parts(payload: &[u8]) {
     io::write_all(STDOUT_FILENO, b"\n");
 }
 
-fn four(a: u8, b: u8, c: u8, d: u8) -> u64
-    ensures { λ r. ⌜ r < 4294967296 ⌝ }
-{
-    ((wide(a) * 256 + wide(b)) * 256 + wide(c)) * 256 + wide(d)
-}
-
 // The number that has this pattern in two's complement.
 fn show_signed(pattern: u64) {
     if pattern < 9223372036854775808 {
-        show(pattern);
+        showing::show(pattern);
     } else {
         io::write_all(STDOUT_FILENO, b" -");
         io::print_decimal(STDOUT_FILENO, 18446744073709551615 - pattern + 1);
@@ -131,9 +104,9 @@ fn show_point(point: &[u8])
     requires { ⌜ 9 ≤ length (now point) ⌝ }
 {
     io::write_all(STDOUT_FILENO, b";");
-    show(wide(point[0]));
-    let high = four(point[1], point[2], point[3], point[4]);
-    let low = four(point[5], point[6], point[7], point[8]);
+    showing::show(showing::wide(point[0]));
+    let high = showing::four(point[1], point[2], point[3], point[4]);
+    let low = showing::four(point[5], point[6], point[7], point[8]);
     show_signed(high * 4294967296 + low);
 }
 
@@ -150,18 +123,12 @@ fn show_spare(points: &[u8]) {
     let start = points.len() / 9 * 9;
     if start < points.len() {
         io::write_all(STDOUT_FILENO, b";");
-        show_octets(&points[start..]);
+        showing::show_octets(&points[start..]);
     }
 }
 
-fn show_called(name: &[u8], number: u32) {
-    io::write_all(STDOUT_FILENO, name);
-    io::write_all(STDOUT_FILENO, b":");
-    show(number as u64);
-}
-
 fn show_unpacked(name: &[u8], number: u32, points: &[u8]) {
-    show_called(name, number);
+    showing::show_called(name, number);
     show_points(points);
     show_spare(points);
     io::write_all(STDOUT_FILENO, b"\n");
@@ -423,9 +390,9 @@ fn zero_point(point: &[u8]) -> u64
     requires { ⌜ 9 ≤ length (now point) ⌝ }
     ensures { λ r. ⌜ r ≤ 1 ⌝ }
 {
-    let high = four(point[0], point[1], point[2], point[3]);
-    let low = four(point[4], point[5], point[6], point[7]);
-    if high + low + wide(point[8]) == 0 {
+    let high = showing::four(point[0], point[1], point[2], point[3]);
+    let low = showing::four(point[4], point[5], point[6], point[7]);
+    if high + low + showing::wide(point[8]) == 0 {
         1
     } else {
         0
@@ -453,11 +420,11 @@ fn show_last(points: &[u8]) {
 fn restore_many(name: &[u8], template: Template, payload: &[u8], points: &mut [u8]) {
     let number = call_spatial(template, ordered(2, 4), 32769, payload, points);
     io::write_all(STDOUT_FILENO, b"5.3, ");
-    show_called(name, number);
+    showing::show_called(name, number);
     show_last(points);
     show_spare(points);
     io::write_all(STDOUT_FILENO, b"; zeros");
-    show(zero_points(points));
+    showing::show(zero_points(points));
     io::write_all(STDOUT_FILENO, b"\n");
 }
 
@@ -532,229 +499,10 @@ fn restorings() {
     far_numbers();
 }
 
-// "A number to pack and each of a group's four numbers take four octets .. all big-endian", and so each of the
-// summary's. Octets short of a whole number are shown one by one.
-fn show_numbers(octets: &[u8]) {
-    let mut k = 0usize;
-    while k < octets.len() / 4 {
-        show(four(
-            octets[k * 4],
-            octets[k * 4 + 1],
-            octets[k * 4 + 2],
-            octets[k * 4 + 3],
-        ));
-        k += 1;
-    }
-    show_octets(&octets[k * 4..]);
-}
-
-// "Four numbers each: start, length, least number, width."
-fn show_groups(groups: &[u8]) {
-    let mut k = 0usize;
-    while k < groups.len() / 16 {
-        io::write_all(STDOUT_FILENO, b";");
-        show_numbers(&groups[k * 16..k * 16 + 16]);
-        k += 1;
-    }
-    if k * 16 < groups.len() {
-        io::write_all(STDOUT_FILENO, b";");
-        show_octets(&groups[k * 16..]);
-    }
-}
-
-// Shows the number, the summary, the payload, the groups.
-fn call_pack(
-    name: &[u8],
-    lookahead: u32,
-    numbers: &[u8],
-    groups: &mut [u8],
-    payload: &mut [u8],
-    summary: &mut [u8],
-) {
-    let number = cleatmow::cleatmow_pack(lookahead, numbers, groups, payload, summary);
-    io::write_all(STDOUT_FILENO, b"pack, ");
-    show_called(name, number);
-    io::write_all(STDOUT_FILENO, b";");
-    show_numbers(summary);
-    io::write_all(STDOUT_FILENO, b";");
-    show_octets(payload);
-    show_groups(groups);
-    io::write_all(STDOUT_FILENO, b"\n");
-}
-
-// Lends so many octets of each, 170 before the call: as a number of four octets, 2863311530.
-fn pack(name: &[u8], lookahead: u32, numbers: &[u8], groups: usize, payload: usize, summary: usize)
-    requires { ⌜ (groups ≤ 80) × (payload ≤ 24) × (summary ≤ 44) ⌝ }
-{
-    let mut lent_groups = [170u8; 80];
-    let mut lent_payload = [170u8; 24];
-    let mut lent_summary = [170u8; 44];
-    call_pack(
-        name,
-        lookahead,
-        numbers,
-        &mut lent_groups[..groups],
-        &mut lent_payload[..payload],
-        &mut lent_summary[..summary],
-    );
-}
-
-// "Pack 0 0 0 0 8 8 8, k 2: 4; 2; 0, 0; 4, 0, 3, 0. Payload 08." In buffers just large enough, then in larger ones:
-// "after success, places past the answer are unchanged".
-fn zeros_and_eights() {
-    let numbers = b"\0\0\0\0\0\0\0\0\0\0\0\0\0\0\0\0\0\0\0\x08\0\0\0\x08\0\0\0\x08";
-    pack(b"0 0 0 0 8 8 8, k 2", 2, numbers, 32, 1, 40);
-    pack(b"in larger buffers", 2, numbers, 49, 3, 44);
-}
-
-// "Pack 5 6 5 7, k 1: 3; 4; 0, 0; 1, 0, 1, 0. Payload BA F0." "The same, k 4: 3; 2; 0, 1; 3, 0, 1, 0. Payload BC 80 40."
-fn four_numbers() {
-    let numbers = b"\0\0\0\x05\0\0\0\x06\0\0\0\x05\0\0\0\x07";
-    pack(b"5 6 5 7, k 1", 1, numbers, 64, 2, 40);
-    pack(b"5 6 5 7, k 4", 4, numbers, 32, 3, 40);
-}
-
-// "Lookahead outside 1 to 65,535."
-fn limits_of_lookahead() {
-    let numbers = b"\0\0\0\x05\0\0\0\x06\0\0\0\x05\0\0\0\x07";
-    pack(b"lookahead 0", 0, numbers, 32, 3, 40);
-    pack(b"lookahead 65535", 65535, numbers, 32, 3, 40);
-    pack(b"lookahead 65536", 65536, numbers, 32, 3, 40);
-}
-
-// "A lent buffer is too small", each by one octet. The 40 octets are "tested for 10 before the group list"; "10 for the
-// group list leaves the first groups in all lent slots; 10 for the payload leaves the groups written".
-fn limits_of_buffers() {
-    let numbers = b"\0\0\0\x05\0\0\0\x06\0\0\0\x05\0\0\0\x07";
-    pack(b"summary of 39 octets", 4, numbers, 32, 3, 39);
-    pack(b"groups of 31 octets", 4, numbers, 31, 3, 40);
-    pack(b"payload of 2 octets", 4, numbers, 32, 2, 40);
-}
-
-// "Packing: 13, 10 for the group list, 10 for the payload": more than one of them at a time.
-fn order_of_refusals() {
-    let numbers = b"\0\0\0\x05\0\0\0\x06\0\0\0\x05\0\0\0\x07";
-    pack(b"lookahead 0, no room", 0, numbers, 0, 0, 0);
-    pack(b"summary and groups", 4, numbers, 31, 3, 39);
-    pack(b"groups and payload", 4, numbers, 31, 2, 40);
-}
-
-// "Number 2147483647 packs, 2147483648 is 13." Then a group that has both 0 and 2147483647: its width is 31.
-fn limits_of_packed() {
-    pack(b"2147483647", 1, b"\x7F\xFF\xFF\xFF", 16, 4, 40);
-    pack(b"2147483648", 1, b"\x80\0\0\0", 16, 4, 40);
-    let far = b"\0\0\0\0\x7F\xFF\xFF\xFF\0\0\0\0";
-    pack(b"0 2147483647 0, k 2", 2, far, 32, 18, 40);
-}
-
-// "List empty." "Spare octets short of a whole one are not used": three octets are no number, and seven are one.
-fn lists_of_few() {
-    pack(b"no number", 1, b"", 16, 1, 40);
-    pack(b"three octets", 1, b"\0\0\x05", 16, 1, 40);
-    pack(b"seven octets", 1, b"\0\0\0\x05\xFF\xFF\xFF", 16, 1, 40);
-}
-
-// One group of width 0, whatever the lookahead: "number width = bits(greatest number)" is 0 too where all are 0, and
-// the payload has no octet.
-fn equal_numbers() {
-    let zeros = b"\0\0\0\0\0\0\0\0\0\0\0\0";
-    pack(b"0 0 0", 1, zeros, 16, 0, 40);
-    let sevens = b"\0\0\0\x07\0\0\0\x07\0\0\0\x07\0\0\0\x07";
-    pack(b"7 7 7 7", 3, sevens, 16, 1, 40);
-}
-
-// Makes each of the numbers, so far below 256, this one.
-fn set_each(numbers: &mut [u8], number: u8) {
-    let mut k = 0usize;
-    while k < numbers.len() / 4 {
-        numbers[k * 4 + 3] = number;
-        k += 1;
-    }
-}
-
-// "Pack ten 0, 310 times 8, five 0, k 1: 4; 3; 0, 0; 10, 150, 5, 2. Payload 08 00 20."
-fn step_of_300() {
-    let mut numbers = [0u8; 1300];
-    set_each(&mut numbers[40..1280], 8);
-    pack(b"310 times 8", 1, &numbers, 48, 3, 40);
-}
-
-// With 267 times 8 the step is 257, of which only 1 is a divisor up to 255.
-fn step_of_257() {
-    let mut numbers = [0u8; 1128];
-    set_each(&mut numbers[40..1108], 8);
-    pack(b"267 times 8", 1, &numbers, 48, 6, 40);
-}
-
-fn show_slot(slot: u32) {
-    show(slot as u64);
-}
-
-fn show_slots(slots: &[u32]) {
-    let mut k = 0usize;
-    while k < slots.len() {
-        show_slot(slots[k]);
-        k += 1;
-    }
-}
-
-// Grouping is refused by 10 and 13 alone.
-fn number_of(refusal: Refusal) -> u64 {
-    match refusal {
-        Refusal::Room => 10,
-        Refusal::Numbers => 13,
-        _ => 0,
-    }
-}
-
-// The groups in number slices: how many, or the refusal's number, then the slots.
-fn show_grouped(name: &[u8], lookahead: u32, numbers: &[u8], slots: &mut [u32]) {
-    io::write_all(STDOUT_FILENO, name);
-    match grouping::groups_of(numbers, lookahead, slots) {
-        Grouped::Groups(count) => {
-            io::write_all(STDOUT_FILENO, b": groups");
-            show_slot(count);
-        }
-        Grouped::Refused(refusal) => {
-            io::write_all(STDOUT_FILENO, b": refused");
-            show(number_of(refusal));
-        }
-    }
-    io::write_all(STDOUT_FILENO, b";");
-    show_slots(slots);
-    io::write_all(STDOUT_FILENO, b"\n");
-}
-
-// Slots for two groups and one more, then one less; each 170 before the call.
-fn groupings() {
-    let numbers = b"\0\0\0\x05\0\0\0\x06\0\0\0\x05\0\0\0\x07";
-    let mut nine = [170u32; 9];
-    show_grouped(b"nine slots", 4, numbers, &mut nine);
-    let mut seven = [170u32; 7];
-    show_grouped(b"seven slots", 4, numbers, &mut seven);
-    let mut four = [170u32; 4];
-    show_grouped(b"no number", 4, b"", &mut four);
-}
-
-fn packings() {
-    zeros_and_eights();
-    four_numbers();
-    limits_of_lookahead();
-    limits_of_buffers();
-    order_of_refusals();
-    limits_of_packed();
-    lists_of_few();
-    equal_numbers();
-    step_of_300();
-    step_of_257();
-    groupings();
-}
-
 fn main() {
     run_lengths();
     limits_of_run_lengths();
     parts();
     unpackings();
     restorings();
-    packings();
 }

@@ -1,10 +1,10 @@
--- `cases::show_octets` meets its contract. Assumes nothing.
+-- `showing::show_octets` meets its contract. Assumes nothing.
 use Prim.Native.Nat.{_-_, _≤_}
 use lib.ListN.{length}
 use native.Mathlib.Omega.{arith}
 use borrow.Author.Needs.{needs}
-use Rattle.cases.proofs.show_octets.Statement.{statement}
-use Rattle.cases.proofs.show_octets.Tie as tie
+use Rattle.showing.proofs.show_octets.Statement.{statement}
+use Rattle.showing.proofs.show_octets.Tie as tie
 
 abbrev Inv-loop : tie.InvT-loop
 Inv-loop octets k₀ k = k ≤ length octets

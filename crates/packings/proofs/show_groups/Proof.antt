@@ -1,10 +1,10 @@
--- `cases::show_groups` meets its contract. Assumes nothing.
+-- `packings::show_groups` meets its contract. Assumes nothing.
 use Prim.Native.Nat.{_-_, _/_, _≤_}
 use lib.ListN.{length}
 use native.Mathlib.Omega.{arith}
 use borrow.Author.Needs.{needs}
-use Rattle.cases.proofs.show_groups.Statement.{statement}
-use Rattle.cases.proofs.show_groups.Tie as tie
+use Rattle.packings.proofs.show_groups.Statement.{statement}
+use Rattle.packings.proofs.show_groups.Tie as tie
 
 abbrev Inv-loop : tie.InvT-loop
 Inv-loop groups k₀ t3 t4 k = k ≤ length groups / 16

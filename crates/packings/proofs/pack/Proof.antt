@@ -1,10 +1,10 @@
--- `cases::pack` meets its contract. Assumes nothing.
+-- `packings::pack` meets its contract. Assumes nothing.
 use lib.ListN.{length-take}
 use native.Mathlib.Omega.{arith}
 use borrow.Author.Needs.{needs}
 use borrow.Author.Needs.{needs}
-use Rattle.cases.proofs.pack.Statement.{statement}
-use Rattle.cases.proofs.pack.Tie as tie
+use Rattle.packings.proofs.pack.Statement.{statement}
+use Rattle.packings.proofs.pack.Tie as tie
 
 array-borrow-prefix-lent-groups : tie.Need-array-borrow-prefix-lent-groups
 array-borrow-prefix-lent-groups c = search needs

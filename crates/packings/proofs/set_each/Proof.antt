@@ -1,11 +1,11 @@
--- `cases::set_each` meets its contract. Assumes nothing.
+-- `packings::set_each` meets its contract. Assumes nothing.
 use Prim.Native.Nat.{_-_, _/_, _≤_}
 use lib.ListN.{length}
 use mathlib.Core.Path.{_≡_}
 use native.Mathlib.Omega.{arith}
 use borrow.Author.Needs.{needs}
-use Rattle.cases.proofs.set_each.Statement.{statement}
-use Rattle.cases.proofs.set_each.Tie as tie
+use Rattle.packings.proofs.set_each.Statement.{statement}
+use Rattle.packings.proofs.set_each.Tie as tie
 
 abbrev Inv-loop : tie.InvT-loop
 Inv-loop numbers₀ number k₀ numbers k = (length numbers ≡ length numbers₀) × (k ≤ length numbers₀ / 4)

@@ -1,10 +1,10 @@
--- `cases::show_numbers` meets its contract. Assumes nothing.
+-- `packings::show_numbers` meets its contract. Assumes nothing.
 use Prim.Native.Nat.{_-_, _/_, _≤_}
 use lib.ListN.{length}
 use native.Mathlib.Omega.{arith}
 use borrow.Author.Needs.{needs}
-use Rattle.cases.proofs.show_numbers.Statement.{statement}
-use Rattle.cases.proofs.show_numbers.Tie as tie
+use Rattle.packings.proofs.show_numbers.Statement.{statement}
+use Rattle.packings.proofs.show_numbers.Tie as tie
 
 abbrev Inv-loop : tie.InvT-loop
 Inv-loop octets k₀ k = k ≤ length octets / 4
