@@ -1,0 +1,9 @@
+pub mod Divisors
+pub mod Mapped
+pub mod Parts
+pub mod Saying
+pub mod Groups
+pub mod Points
+pub mod RoundTrip
+pub mod Packers
+pub mod Again

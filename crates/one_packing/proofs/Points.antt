@@ -1,0 +1,94 @@
+-- What a packing of some groups says: its points are the groups' numbers. Assumes nothing.
+use mathlib.Core.Path.{_≡_, refl, sym, ap, ap₂, _∙_}
+use mathlib.Core.Bool.{Bool, true, false, cond}
+use mathlib.Core.List.{List, [], _∷_, _++_, append-nil, map, flatMap}
+use Prim.Native.Nat.{ℕ, zero, suc, _+_, _-_, _*_, _/_, _^_, _≤_, _<_}
+use native.Mathlib.Omega.{arith}
+use borrow.Author.Tests.{eqb-true}
+use lib.Dec.{eqb}
+use lib.ListN.{length, getD, length-append}
+use lib.IntN.{pos}
+use Rattle.format.specs.Lists.{listed, total, joined, least}
+use Rattle.format.specs.Bits.{roundedUp}
+use Rattle.format.specs.Grouping.{widthOf}
+use Rattle.format.specs.Template.{valuesAt}
+use Rattle.format.specs.Unpacking.{codesOf, referenceOf, groupWidth, groupLength, pointsBefore, bitsBefore, Said, saidBy, decoded, pointOf, pointAt, pointsUpTo}
+use Rattle.format.specs.Packing.{lengthCodes, valueString, payloadOf, templateOf}
+use Rattle.format.specs.declared.DecodedValue.{DecodedValue}
+use Rattle.format.specs.declared.DecodedValue.the-variants.{Normal}
+use Rattle.format.specs.declared.Template.{Template}
+use Rattle.laws.specs.Lists.{length-map, listed-ext}
+use Rattle.laws.specs.Extremes.{least-lower, fits-width}
+use Rattle.laws.specs.Groups.{allOf}
+use Rattle.laws.specs.Points.{length-points}
+use Rattle.one_packing.proofs.Mapped.{map-at, listed-map, joined-ext, joined-map}
+use Rattle.one_packing.proofs.Saying.{Fitting, codes-back, said-back, at-end}
+use Rattle.one_packing.proofs.Groups.{valuesOf, codesFor, fitting}
+
+abbrev pub numberPoint : ℕ → DecodedValue
+numberPoint number = Normal (pos number)
+
+-- under management 0 no value is a missing code
+plain : (t : Template) → t .management ≡ 0 → (w value number : ℕ) → decoded t w value number ≡ numberPoint number
+unfolding decoded
+plain t e w value number = rw e
+
+-- a number of a group from its value: in a group of width 0 all numbers are the reference
+point-back : (t : Template) → t .management ≡ 0 → (group : List ℕ) (k : ℕ) → k < length group
+    → pointOf t (widthOf group) (least group) (getD group k 0 - least group) ≡ numberPoint (getD group k 0)
+unfolding pointOf
+point-back t e group k l = by-test (eqb (widthOf group) 0) refl
+  where
+    by-test : (b : Bool) → eqb (widthOf group) 0 ≡ b
+        → cond b (decoded t (t .width) (least group) (least group)) (decoded t (widthOf group) (getD group k 0 - least group) (getD group k 0 - least group + least group)) ≡ numberPoint (getD group k 0)
+    by-test true h =
+        let one : getD group k 0 - least group < 1 = rw (eqb-true (widthOf group) 0 h) at (fits-width group k l) in
+        plain t e (t .width) (least group) (least group) ∙ ap numberPoint (omega (arith, one, least-lower group k l))
+    by-test false h = plain t e (widthOf group) (getD group k 0 - least group) (getD group k 0 - least group + least group) ∙ ap numberPoint (omega (arith, least-lower group k l))
+
+-- the payload of a packing, behind a front and before whatever follows
+module _ (numbers : List ℕ) (groups : List (List ℕ)) (e : allOf groups ≡ numbers) (some : 0 < length groups) (front rest : List ℕ) where
+  abbrev t : Template
+  t = templateOf numbers groups
+
+  abbrev pub sentPayload : List ℕ
+  sentPayload = front ++ payloadOf t groups ++ rest
+
+  abbrev said : Said
+  said = record { codes = codesFor t groups; values = map valuesOf groups }
+
+  own : Fitting widthOf valuesOf [] t (codesFor t groups) groups
+  own = fitting numbers groups e some
+
+  pub packed-codes : codesOf (length front) t sentPayload ≡ codesFor t groups
+  unfolding payloadOf lengthCodes valueString
+  packed-codes = codes-back widthOf valuesOf [] t (codesFor t groups) 0 groups own front rest
+
+  pub packed-said : saidBy (length front) t sentPayload ≡ said
+  unfolding payloadOf lengthCodes valueString
+  packed-said = said-back widthOf valuesOf [] t (codesFor t groups) 0 groups own front rest
+
+  -- with nothing after it, the payload ends with the last value's octet
+  pub packed-end : length (front ++ payloadOf t groups) ≡ valuesAt (length front) t + roundedUp (bitsBefore t (codesFor t groups) (t .groups))
+  unfolding payloadOf lengthCodes valueString
+  packed-end = at-end widthOf valuesOf [] t (codesFor t groups) 0 groups own front rest
+
+  own-point : (g k : ℕ) → g < length groups → k < length (getD groups g []) → pointAt t said g k ≡ numberPoint (getD (getD groups g []) k 0)
+  unfolding pointAt referenceOf templateOf
+  own-point g k l m =
+      let group = getD groups g [] in
+      rw (own .group-width g l, map-at least groups [] 0 g l, map-at valuesOf groups [] [] g l, map-at (λ number. number - least group) group 0 0 k m)
+      (point-back t refl group k m)
+
+  own-points : (g : ℕ) → g < length groups → listed (groupLength t (said .codes) g) (pointAt t said g) ≡ map numberPoint (getD groups g [])
+  unfolding templateOf
+  own-points g l =
+      let group = getD groups g [] in
+      ap (λ (n : ℕ). listed n (pointAt t said g)) (own .group-length g l ∙ length-map (λ number. number - least group) group)
+      ∙ listed-ext (length group) (pointAt t said g) (λ k. numberPoint (getD group k 0)) (λ k m. own-point g k l m)
+      ∙ listed-map numberPoint group 0 refl
+
+  pub packed-points : pointsUpTo t said (t .groups) ≡ map numberPoint numbers
+  unfolding pointsUpTo templateOf
+  packed-points =
+      joined-ext (length groups) _ _ own-points ∙ joined-map numberPoint groups refl ∙ ap (map numberPoint) e

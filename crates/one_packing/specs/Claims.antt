@@ -1,0 +1,100 @@
+-- Demand 3, "one map, one packing", to be read beside it. The proofs stand in proofs/. Assumes nothing.
+use mathlib.Core.Path.{_≡_}
+use mathlib.Core.Logic.{_↔_}
+use mathlib.Core.List.{List, [], _∷_, _++_, map, flatMap}
+use Prim.Native.Nat.{ℕ, _+_, _*_, _≤_, _<_}
+use lib.ListN.{length, getD}
+use lib.IntN.{pos}
+use Rattle.format.specs.Lists.{_over_}
+use Rattle.format.specs.Layout.{inFours, pointSize, pointOctets, markOf, heldBy, twosComplement, groupSize}
+use Rattle.format.specs.Refusals.{left}
+use Rattle.format.specs.Unpacking.{codesOf, groupWidth, groupLength, saidBy, pointsUpTo, unpack52}
+use Rattle.format.specs.Grouping.{widthOf, groupsOf, numberRefusals}
+use Rattle.format.specs.Packing.{Packing, packingOf, templateNumbers, summarySize, pack}
+use Rattle.format.specs.declared.DecodedValue.{DecodedValue}
+use Rattle.format.specs.declared.DecodedValue.the-variants.{Normal, Missing1}
+use Rattle.format.specs.declared.Packed.the-variants as packed
+use Rattle.format.specs.declared.Template.{Template}
+use Rattle.format.specs.declared.Unpacked.the-variants as unpacked
+use Rattle.laws.specs.First.{Clear}
+
+-- ---- a packing under template 5.2, as it is sent: by our packer or by any other
+
+pub record Sent : Type 0 where
+  pub template : Template
+  pub payload : List ℕ
+
+-- its points, and the numbers that they hold
+abbrev pub pointsIn : Sent → List DecodedValue
+pointsIn sent = pointsUpTo (sent .template) (saidBy 0 (sent .template) (sent .payload)) (sent .template .groups)
+
+abbrev pub numbersIn : Sent → List ℕ
+numbersIn sent = map (λ point. twosComplement (heldBy point)) (pointsIn sent)
+
+-- Unpacking accepts it with the count of its points declared, and gives them, whatever is lent with room for them.
+abbrev pub Accepted : Sent → Type 0
+Accepted sent =
+    (lent : List ℕ) → length (pointsIn sent) * pointSize ≤ length lent
+    → left (unpacked.Points (length (pointsIn sent))) (flatMap pointOctets (pointsIn sent) over lent)
+    ≡ unpack52 (sent .template) (length (pointsIn sent)) (sent .payload) lent
+
+-- "accepted 5.2 packings (at least one point, none missing, no number above 2,147,483,647)"
+pub record Demanded (sent : Sent) : Type 0 where
+  pub accepted : Accepted sent
+  pub some : 1 ≤ length (pointsIn sent)
+  pub none-missing : (k : ℕ) → k < length (pointsIn sent) → markOf (getD (pointsIn sent) k Missing1) ≡ 0
+  pub small : (k : ℕ) → k < length (pointsIn sent) → getD (numbersIn sent) k 0 ≤ 2147483647
+
+-- ---- packing, by a rule that adds some cost for ending a group
+
+-- "with one lookahead", from 1 to 65,535
+pub record Lookahead (k : ℕ) : Type 0 where
+  pub some : 1 ≤ k
+  pub few : k ≤ 65535
+
+abbrev pub packedBy : ℕ → ℕ → List ℕ → Sent
+packedBy added k numbers =
+    let p = packingOf numbers (groupsOf widthOf added k numbers) in
+    record { template = p .template; payload = p .payload }
+
+-- "unpack [..] and pack them again"
+abbrev pub again : ℕ → ℕ → Sent → Sent
+again added k sent = packedBy added k (numbersIn sent)
+
+-- ---- the claims
+
+-- what packing reports is within unpacking's limits
+pub record Limits (sent : Sent) : Type 0 where
+  pub width : sent .template .width ≤ 31
+  pub some-groups : 1 ≤ sent .template .groups
+  pub few-groups : sent .template .groups ≤ 4194304
+  pub width-reference : sent .template .widths .reference ≤ 255
+  pub width-bits : sent .template .widths .bits ≤ 32
+  pub length-reference : sent .template .lengths .reference ≤ 4294967295
+  pub increment : sent .template .lengths .increment ≤ 255
+  pub last : sent .template .lengths .last ≤ 4294967295
+  pub length-bits : sent .template .lengths .bits ≤ 32
+  pub widths : (g : ℕ) → g < sent .template .groups → groupWidth (sent .template) (codesOf 0 (sent .template) (sent .payload)) g ≤ 31
+  pub lengths : (g : ℕ) → g < sent .template .groups → groupLength (sent .template) (codesOf 0 (sent .template) (sent .payload)) g ≤ 4294967295
+  pub payload : length (sent .payload) ≤ 4294967295
+
+-- "the result unpacks to those numbers"
+pub record Returned (numbers : List ℕ) (sent : Sent) : Type 0 where
+  pub accepted : Accepted sent
+  pub points : pointsIn sent ≡ map (λ number. Normal (pos number)) numbers
+  pub limits : Limits sent
+
+-- Round trip: for every list that packing accepts and every lookahead, its packing is accepted with the list's length
+-- declared, and unpacks to the list.
+abbrev pub RoundTrip : ℕ → Type 0
+RoundTrip added = (k : ℕ) (numbers : List ℕ) → Clear (numberRefusals k numbers) → Returned numbers (packedBy added k numbers)
+
+-- "equal parameters and octets exactly when they held the same numbers"
+abbrev pub Canonical : ℕ → Type 0
+Canonical added =
+    (k : ℕ) → Lookahead k → (a b : Sent) → Demanded a → Demanded b
+    → (again added k a ≡ again added k b) ↔ (pointsIn a ≡ pointsIn b)
+
+-- "doing it again changes no octet"
+abbrev pub Idempotent : ℕ → Type 0
+Idempotent added = (k : ℕ) → Lookahead k → (a : Sent) → Demanded a → again added k (again added k a) ≡ again added k a
