@@ -84,8 +84,8 @@ mod run_length;
 mod unpacking;
 
 pub use packing::{
-    groups_in, numbers_as_octets, pack, pack_into, Group, Packing, Summary, GREATEST_LOOKAHEAD, GREATEST_NUMBER,
-    GROUP_OCTETS, MOST_NUMBERS, NUMBER_OCTETS, SUMMARY_OCTETS,
+    groups_in, numbers_as_octets, numbers_of_points, pack, pack_into, Group, NoNumberToPack, Packing, Summary,
+    GREATEST_LOOKAHEAD, GREATEST_NUMBER, GROUP_OCTETS, MOST_NUMBERS, NUMBER_OCTETS, SUMMARY_OCTETS,
 };
 pub use refusal::Refusal;
 pub use run_length::{run_length, run_length_into, LEVEL_OCTETS};

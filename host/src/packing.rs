@@ -1,6 +1,8 @@
 //! Grouping and packing: a list of numbers becomes the payload of template 5.2.
 
-use crate::{ffi, Refusal, Template};
+use crate::{ffi, points_in, Point, Refusal, Template, POINT_OCTETS};
+use std::error::Error;
+use std::fmt;
 
 /// The greatest count of numbers that a list to pack has.
 pub const MOST_NUMBERS: u32 = 4_194_304;
@@ -165,6 +167,61 @@ pub fn numbers_as_octets(numbers: &[u32]) -> Vec<u8> {
         place.copy_from_slice(&number.to_be_bytes());
     }
     octets
+}
+
+/// A point that is no number to pack, and where it stands. `Display` has a sentence for the log.
+#[derive(Clone, Copy, Debug, PartialEq, Eq)]
+pub struct NoNumberToPack {
+    /// The place of the first such point. The first place is 0.
+    pub place: usize,
+    /// The point: a missing one, or a number that four octets do not hold.
+    pub point: Point,
+}
+
+impl fmt::Display for NoNumberToPack {
+    fn fmt(&self, f: &mut fmt::Formatter<'_>) -> fmt::Result {
+        let place = self.place;
+        match self.point {
+            Point::Number(number) => {
+                write!(
+                    f,
+                    "the point at place {place} holds {number}, which is not 0 to 4,294,967,295: no number to pack"
+                )
+            }
+            Point::Missing1 | Point::Missing2 => {
+                write!(f, "the point at place {place} is missing: there is no number to pack")
+            }
+        }
+    }
+}
+
+impl Error for NoNumberToPack {}
+
+/// The numbers of a map that stands in a lent buffer, [`POINT_OCTETS`] a point, as [`pack_into`] is given them,
+/// [`NUMBER_OCTETS`] each and in the same order.
+///
+/// Every whole point of `points` is turned, and spare octets short of one are not, as in [`points_in`]. No point is
+/// left out and none is changed: where one has no number that four octets hold, there is no list at all. A number above
+/// [`GREATEST_NUMBER`] that four octets do hold is turned, and packing refuses it.
+///
+/// # Errors
+///
+/// [`NoNumberToPack`] for the first point that is missing, negative, or above 4,294,967,295.
+///
+/// # Panics
+///
+/// At a point whose mark is not 0, 1 or 2, as [`points_in`] does.
+pub fn numbers_of_points(points: &[u8]) -> Result<Vec<u8>, NoNumberToPack> {
+    let mut numbers = Vec::with_capacity(points.len() / POINT_OCTETS * NUMBER_OCTETS);
+    for (place, point) in points_in(points).enumerate() {
+        let number = match point {
+            Point::Number(number) => u32::try_from(number).ok(),
+            // It holds number 0, which would be wind.
+            Point::Missing1 | Point::Missing2 => None,
+        };
+        numbers.extend(number.ok_or(NoNumberToPack { place, point })?.to_be_bytes());
+    }
+    Ok(numbers)
 }
 
 /// The groups that stand in a lent buffer, [`GROUP_OCTETS`] each.
