@@ -5,5 +5,9 @@ pub mod Saying
 pub mod Groups
 pub mod Points
 pub mod RoundTrip
+pub mod Accepting
 pub mod Packers
 pub mod Again
+pub mod Packing
+pub mod Octets
+pub mod Calls

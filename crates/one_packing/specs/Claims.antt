@@ -10,9 +10,10 @@ use Rattle.format.specs.Layout.{inFours, pointSize, pointOctets, markOf, heldBy
 use Rattle.format.specs.Refusals.{left}
 use Rattle.format.specs.Unpacking.{codesOf, groupWidth, groupLength, saidBy, pointsUpTo, unpack52}
 use Rattle.format.specs.Grouping.{widthOf, groupsOf, numberRefusals}
-use Rattle.format.specs.Packing.{Packing, packingOf, templateNumbers, summarySize, pack}
+use Rattle.format.specs.Packing.{packingOf, templateNumbers, summarySize, Parcelled, pack}
 use Rattle.format.specs.declared.DecodedValue.{DecodedValue}
 use Rattle.format.specs.declared.DecodedValue.the-variants.{Normal, Missing1}
+use Rattle.format.specs.declared.Packed.{Packed}
 use Rattle.format.specs.declared.Packed.the-variants as packed
 use Rattle.format.specs.declared.Template.{Template}
 use Rattle.format.specs.declared.Unpacked.the-variants as unpacked
@@ -24,12 +25,12 @@ pub record Sent : Type 0 where
   pub template : Template
   pub payload : List ℕ
 
--- its points, and the numbers that they hold
+-- its points, and the number that each holds
 abbrev pub pointsIn : Sent → List DecodedValue
 pointsIn sent = pointsUpTo (sent .template) (saidBy 0 (sent .template) (sent .payload)) (sent .template .groups)
 
-abbrev pub numbersIn : Sent → List ℕ
-numbersIn sent = map (λ point. twosComplement (heldBy point)) (pointsIn sent)
+abbrev pub numbersOf : Sent → List ℕ
+numbersOf sent = map (λ point. twosComplement (heldBy point)) (pointsIn sent)
 
 -- Unpacking accepts it with the count of its points declared, and gives them, whatever is lent with room for them.
 abbrev pub Accepted : Sent → Type 0
@@ -43,9 +44,9 @@ pub record Demanded (sent : Sent) : Type 0 where
   pub accepted : Accepted sent
   pub some : 1 ≤ length (pointsIn sent)
   pub none-missing : (k : ℕ) → k < length (pointsIn sent) → markOf (getD (pointsIn sent) k Missing1) ≡ 0
-  pub small : (k : ℕ) → k < length (pointsIn sent) → getD (numbersIn sent) k 0 ≤ 2147483647
+  pub small : (k : ℕ) → k < length (pointsIn sent) → getD (numbersOf sent) k 0 ≤ 2147483647
 
--- ---- packing, by a rule that adds some cost for ending a group
+-- ---- packing, by a rule that adds some cost for ending a group: document 01's adds 0
 
 -- "with one lookahead", from 1 to 65,535
 pub record Lookahead (k : ℕ) : Type 0 where
@@ -59,11 +60,37 @@ packedBy added k numbers =
 
 -- "unpack [..] and pack them again"
 abbrev pub again : ℕ → ℕ → Sent → Sent
-again added k sent = packedBy added k (numbersIn sent)
+again added k sent = packedBy added k (numbersOf sent)
+
+-- lent buffers with room for a packing of some numbers: each group has a number at least
+pub record Roomy (numbers : List ℕ) (sent : Sent) (groups payload summary : List ℕ) : Type 0 where
+  pub for-groups : length numbers * groupSize ≤ length groups
+  pub for-payload : length (sent .payload) ≤ length payload
+  pub for-summary : summarySize ≤ length summary
+
+-- what packing gives, besides the group list
+pub record Given : Type 0 where
+  pub answer : Packed
+  pub payload : List ℕ
+  pub summary : List ℕ
+
+abbrev pub givenBy : Parcelled → Given
+givenBy p = record { answer = p .answer; payload = p .payload; summary = p .summary }
+
+-- Packing accepts the numbers where there is room, and gives this packing.
+abbrev pub Packs : ℕ → List ℕ → Sent → Type 0
+Packs k numbers sent =
+    (groups payload summary : List ℕ) → Roomy numbers sent groups payload summary
+    → givenBy (pack k numbers groups payload summary)
+    ≡ record {
+      answer = packed.Payload (sent .template) (record { 0 = length (sent .payload) });
+      payload = sent .payload over payload;
+      summary = inFours (templateNumbers (sent .template) ++ (sent .template .groups ∷ length (sent .payload) ∷ [])) over summary;
+    }
 
 -- ---- the claims
 
--- what packing reports is within unpacking's limits
+-- what packing reports is within unpacking's limits, and within the octets that the template numbers have
 pub record Limits (sent : Sent) : Type 0 where
   pub width : sent .template .width ≤ 31
   pub some-groups : 1 ≤ sent .template .groups
@@ -78,23 +105,28 @@ pub record Limits (sent : Sent) : Type 0 where
   pub lengths : (g : ℕ) → g < sent .template .groups → groupLength (sent .template) (codesOf 0 (sent .template) (sent .payload)) g ≤ 4294967295
   pub payload : length (sent .payload) ≤ 4294967295
 
--- "the result unpacks to those numbers"
+-- Round trip: for every list that packing accepts and every lookahead, the packing is accepted with the list's length
+-- declared, and unpacks to the list.
 pub record Returned (numbers : List ℕ) (sent : Sent) : Type 0 where
   pub accepted : Accepted sent
   pub points : pointsIn sent ≡ map (λ number. Normal (pos number)) numbers
   pub limits : Limits sent
 
--- Round trip: for every list that packing accepts and every lookahead, its packing is accepted with the list's length
--- declared, and unpacks to the list.
 abbrev pub RoundTrip : ℕ → Type 0
 RoundTrip added = (k : ℕ) (numbers : List ℕ) → Clear (numberRefusals k numbers) → Returned numbers (packedBy added k numbers)
 
--- "equal parameters and octets exactly when they held the same numbers"
+-- Canonical: "equal parameters and octets exactly when they held the same numbers"
 abbrev pub Canonical : ℕ → Type 0
 Canonical added =
     (k : ℕ) → Lookahead k → (a b : Sent) → Demanded a → Demanded b
     → (again added k a ≡ again added k b) ↔ (pointsIn a ≡ pointsIn b)
 
--- "doing it again changes no octet"
+-- Idempotent: "the result unpacks to those numbers; doing it again changes no octet"
 abbrev pub Idempotent : ℕ → Type 0
-Idempotent added = (k : ℕ) → Lookahead k → (a : Sent) → Demanded a → again added k (again added k a) ≡ again added k a
+Idempotent added =
+    (k : ℕ) → Lookahead k → (a : Sent) → Demanded a
+    → (pointsIn (again added k a) ≡ pointsIn a) × (again added k (again added k a) ≡ again added k a)
+
+-- All three hold of what packing gives by document 01's rule.
+abbrev pub ByPacking : Type 0
+ByPacking = (k : ℕ) (numbers : List ℕ) → Clear (numberRefusals k numbers) → Packs k numbers (packedBy 0 k numbers)

@@ -1,0 +1,38 @@
+-- Packing accepts what document 01 lets it, where there is room, and gives the packing that the claims speak of. Assumes nothing.
+use mathlib.Core.Path.{_≡_, refl, sym, ap, _∙_}
+use mathlib.Core.List.{List, [], _∷_, _++_, flatMap}
+use Prim.Native.Nat.{ℕ, _*_, _/_, _≤_, _<_}
+use native.Mathlib.Omega.{arith}
+use lib.Dec.{ltb}
+use lib.ListN.{length, take}
+use Rattle.format.specs.Lists.{_over_}
+use Rattle.format.specs.Layout.{inFours, wholeOnes, groupSize, groupNumbers}
+use Rattle.format.specs.Refusals.{_gives_, first}
+use Rattle.format.specs.Grouping.{widthOf, groups01, groupsOf, recordsFrom, numberRefusals}
+use Rattle.format.specs.Packing.{templateOf, packingOf, summaryNumbers, summarySize, Parcelled, pack}
+use Rattle.format.specs.declared.Group.{Group}
+use Rattle.format.specs.declared.Refusal.the-variants.{Room}
+use Rattle.format.specs.declared.Packed.the-variants as packed
+use Rattle.laws.specs.First.{Clear, clears, tests}
+use Rattle.laws.specs.Groups.{length-records, groups-all, groups-none-empty}
+use Rattle.one_packing.specs.Claims.{Roomy, Given, givenBy, Packs, ByPacking, packedBy}
+use Rattle.one_packing.proofs.Groups.{few-groups}
+use Rattle.one_packing.proofs.Accepting.{clear-join}
+
+pub by-packing : ByPacking
+unfolding pack packingOf templateOf
+by-packing k numbers clear groups payload summary room =
+    let p = packingOf numbers (groups01 k numbers) in
+    let slots = wholeOnes groupSize groups in
+    let stored : List Group → List ℕ = λ records. inFours (flatMap groupNumbers records) over groups in
+    let given : Parcelled = record { answer = packed.Payload (p .template) (record { 0 = length (p .payload) }); groups = stored (p .records); payload = p .payload over payload; summary = inFours (summaryNumbers p) over summary } in
+    let many : length (p .records) ≡ length (groups01 k numbers) = length-records 0 (groups01 k numbers) in
+    let few : length (groups01 k numbers) ≤ length numbers =
+    omega (arith, few-groups (groups01 k numbers) (groups-none-empty widthOf 0 k numbers), ap length (groups-all widthOf 0 k numbers)) in
+    let packed-so : given ≡ pack k numbers groups payload summary =
+    clears (λ r. record { answer = packed.Refused r; groups = stored (p .records); payload = payload; summary = summary }) _ given (omega (arith, tests, room .for-payload))
+    ∙ clears (λ r. record { answer = packed.Refused r; groups = stored (take slots (p .records)); payload = payload; summary = summary }) _ _ (omega (arith, tests, many, few, room .for-groups))
+    ∙ clears (λ r. record { answer = packed.Refused r; groups = groups; payload = payload; summary = summary }) _ _
+    (clear-join (numberRefusals k numbers) (ltb (length summary) summarySize gives Room ∷ []) clear (omega (arith, tests, room .for-summary))) in
+    let count : length (p .records) ≡ p .template .groups = many in
+    ap givenBy (sym packed-so) ∙ rw count
