@@ -11,3 +11,4 @@ pub mod Again
 pub mod Packing
 pub mod Octets
 pub mod Calls
+pub mod Needed
