@@ -73,16 +73,16 @@ module _ (list : List ℕ) (k added start : ℕ) where
         -- the comparison, as the rule has it
         module _ {kept keep extend : ℕ} (e₁ : (kept ≡ (end - start) * wide) × (kept ≤ (end - start) * 32)) (e₂ : keep ≡ kept + added)
             (e₃ : (extend ≡ (end - start + 1) * grown) × (extend ≤ (end - start + 1) * 32)) {b : Bool}
-            (eb : b ≡ ltb (keep + cost widthOf 0 (take k (drop end list))) extend) where
+            (eb : b ≡ ltb (keep + cost widthOf (take k (drop end list))) extend) where
           rule : b ≡ endsBefore widthOf added k (slice start end list) next (drop (suc end) list)
           unfolding endsBefore
           rule =
               let n : length (slice start end list) ≡ end - start = length-slice start end list (s .within) in
               let m : length (slice start (end + 1) list) ≡ end - start + 1 = length-slice start (end + 1) list (omega arith) ∙ omega (arith, s .some) in
-              let c₁ : cost widthOf 0 (slice start end list) ≡ (end - start) * wide = rw (n, s .width) in
-              let c₂ : cost widthOf 0 (slice start (end + 1) list) ≡ (end - start + 1) * grown = rw (m, wider-width) in
-              let ahead = cost widthOf 0 (take k (drop end list)) in
-              let a : keep + ahead ≡ cost widthOf 0 (slice start end list) + (ahead + added) = omega (arith, e₁ .0, c₁) in
+              let c₁ : cost widthOf (slice start end list) ≡ (end - start) * wide = rw (n, s .width) in
+              let c₂ : cost widthOf (slice start (end + 1) list) ≡ (end - start + 1) * grown = rw (m, wider-width) in
+              let ahead = cost widthOf (take k (drop end list)) in
+              let a : keep + ahead ≡ cost widthOf (slice start end list) + (ahead + added) = omega (arith, e₁ .0, c₁) in
               eb ∙ ap₂ ltb a (e₃ .0 ∙ sym c₂) ∙ rw (drop-cons list end 0 l, longer)
 
           -- "the group ends before it"
