@@ -11,9 +11,9 @@ use lib.ListN.{length, getD, take, drop}
 use lib.Seq.{slice, length-slice}
 use Rattle.format.specs.Lists.{greatest, least}
 use Rattle.format.specs.Grouping.{digitsIn, bits, widthOf, cost}
-use Rattle.laws.specs.Extremes.{least-greatest}
 use Rattle.numbers.specs.Windows.{windowOf, widenedBy}
 use Rattle.numbers.specs.declared.Window.{Window}
+use Rattle.numbers.proofs.Windows.{window-ordered, window-width}
 use Rattle.grouping.specs.Rule.{Level, Known}
 use Rattle.grouping.proofs.Slices.{reach-takes}
 use Rattle.grouping.proofs.Levels.{window-next, width-longer, level-window}
@@ -42,17 +42,14 @@ module _ (list : List ℕ) (end reach keep extend : ℕ) (far : reach ≤ length
 
   module _ {w : Window} {i : ℕ} (s : Looking list end reach keep extend w i) (l : i < reach) {x : ℕ} {w′ : Window} (ex : x ≡ getD list i 0) (ew : w′ ≡ widenedBy w x) where
     next-window : w′ ≡ windowOf (slice end (i + 1) list)
-    next-window =
-        ew ∙ ap (widenedBy w) ex ∙ ap (λ (v : Window). widenedBy v (getD list i 0)) (s .window)
-        ∙ sym (window-next list end i (s .from) (omega arith))
+    next-window = window-next list end i (s .from) (omega arith) (s .window) ex ew
 
     pub next-ordered : w′ .least ≤ w′ .greatest
-    next-ordered = rw next-window (least-greatest (slice end (i + 1) list))
+    next-ordered = window-ordered (slice end (i + 1) list) next-window
 
     module _ {y z : ℕ} (ey : (y ≡ bits (w′ .greatest - w′ .least)) × (y ≤ 32)) (ez : (z ≡ (reach - end) * y) × (z ≤ (reach - end) * 32)) where
       next-width : z ≡ (reach - end) * widthOf (slice end (i + 1) list)
-      unfolding widthOf
-      next-width = ez .0 ∙ ap (λ (n : ℕ). (reach - end) * n) (ey .0 ∙ ap (λ (v : Window). bits (v .greatest - v .least)) next-window)
+      next-width = ez .0 ∙ ap (λ (n : ℕ). (reach - end) * n) (window-width (slice end (i + 1) list) next-window (ey .0))
 
       -- a longer piece has no smaller range
       pub looking-stops : extend ≤ keep + z → false ≡ ltb (keep + cost widthOf (slice end reach list)) extend

@@ -11,9 +11,9 @@ use lib.Seq.{slice, drop-cons, length-slice}
 use Rattle.format.specs.Lists.{greatest, least}
 use Rattle.format.specs.Grouping.{digitsIn, bits, widthOf, cost, endsBefore, groupsFrom, groupsOf}
 use Rattle.format.specs.declared.Group.{Group}
-use Rattle.laws.specs.Extremes.{least-greatest}
 use Rattle.numbers.specs.Windows.{windowOf, widenedBy}
 use Rattle.numbers.specs.declared.Window.{Window}
+use Rattle.numbers.proofs.Windows.{window-ordered, window-width}
 use Rattle.grouping.specs.Rule.{Level, Known, Next}
 use Rattle.grouping.proofs.Slices.{slice-snoc, slice-none}
 use Rattle.grouping.proofs.Levels.{window-next, level-later}
@@ -58,17 +58,14 @@ module _ (list : List ℕ) (k added start : ℕ) where
 
     module _ {x : ℕ} {w′ : Window} (ex : x ≡ next) (ew : w′ ≡ widenedBy w x) where
       wider : w′ ≡ windowOf (slice start (end + 1) list)
-      wider =
-          ew ∙ ap (widenedBy w) ex ∙ ap (λ (v : Window). widenedBy v next) (s .window)
-          ∙ sym (window-next list start end (s .some) l)
+      wider = window-next list start end (s .some) l (s .window) ex ew
 
       pub wider-ordered : w′ .least ≤ w′ .greatest
-      wider-ordered = rw wider (least-greatest (slice start (end + 1) list))
+      wider-ordered = window-ordered (slice start (end + 1) list) wider
 
       module _ {grown : ℕ} (eg : (grown ≡ bits (w′ .greatest - w′ .least)) × (grown ≤ 32)) where
         wider-width : grown ≡ widthOf (slice start (end + 1) list)
-        unfolding widthOf
-        wider-width = eg .0 ∙ ap (λ (v : Window). bits (v .greatest - v .least)) wider
+        wider-width = window-width (slice start (end + 1) list) wider (eg .0)
 
         -- the comparison, as the rule has it
         module _ {kept keep extend : ℕ} (e₁ : (kept ≡ (end - start) * wide) × (kept ≤ (end - start) * 32)) (e₂ : keep ≡ kept + added)

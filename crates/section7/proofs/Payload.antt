@@ -24,13 +24,14 @@ use Rattle.format.specs.declared.Stored.the-variants as stored
 use Rattle.format.specs.declared.Template.{Template}
 use Rattle.laws.specs.Lists.{map-listed, listed-ext}
 use Rattle.laws.specs.Bits.{bit-lt, number-lt}
+use Rattle.laws.specs.Codes.{but-last-listed}
 use Rattle.laws.specs.Digits.{bits-le, bits-within}
 use Rattle.laws.specs.Stores.{sets-append, sets-front}
 use Rattle.numbers.specs.Records.{numberOf, codedTemplate}
 use Rattle.numbers.specs.declared.Field.the-variants.{References, Widths, Lengths}
 use Rattle.section7.specs.Parts.{codeOf, codesOf, valueStringOf, valueBits, Codable, Sound, Narrow, placesFor, payloadIn, payloadLent}
 use Rattle.section7.specs.declared.Coding.{Coding}
-use Rattle.section7.proofs.Listing.{flat-listed, last-listed, greatest-at, least-at, greatest-upto, divided-le}
+use Rattle.section7.proofs.Listing.{flat-listed, greatest-at, least-at, greatest-upto, divided-le}
 use Rattle.section7.proofs.Aligned.{length-padded}
 use Rattle.section7.proofs.Values.{values-wide, least-upto, size-all}
 use Rattle.section7.proofs.Codings.{codes-are, size-codes, size-last}
@@ -80,9 +81,9 @@ record LengthsCoded (l : decl.Lengths) (n : ℕ) (f : ℕ → ℕ) : Type 0 wher
 lengths-coded : (n : ℕ) (f : ℕ → ℕ) {l : decl.Lengths} → l ≡ lengthCoding (listed n f) → LengthsCoded l (n - 1) f
 unfolding lengthCoding
 lengths-coded n f {l} e =
-    let low : l .reference ≡ least (listed (n - 1) f) = ap (λ (c : decl.Lengths). c .reference) e ∙ ap least (last-listed n f) in
+    let low : l .reference ≡ least (listed (n - 1) f) = ap (λ (c : decl.Lengths). c .reference) e ∙ ap least (but-last-listed n f) in
     let differences : map (λ (x : ℕ). x - l .reference) (butLast (listed n f)) ≡ listed (n - 1) (λ k. f k - l .reference) =
-    ap (map (λ (x : ℕ). x - l .reference)) (last-listed n f) ∙ map-listed (λ (x : ℕ). x - l .reference) (n - 1) f in
+    ap (map (λ (x : ℕ). x - l .reference)) (but-last-listed n f) ∙ map-listed (λ (x : ℕ). x - l .reference) (n - 1) f in
     record { least-is = low; bits-is = rw (← differences, e) }
 
 module _ {t : Template} {numbers octets : List ℕ} {count : ℕ} (s : Sound numbers octets count) (e : t ≡ codedTemplate (greatest numbers) (groupsIn octets count)) where
@@ -207,7 +208,7 @@ module _ (t : Template) (numbers octets : List ℕ) (count : ℕ) where
   codes-last =
       let coded : ℕ → ℕ = λ x. (x - t .lengths .reference) / t .lengths .increment in
       let lengths : ℕ → ℕ = λ k. groupAt octets k .length in
-      ap (λ (xs : List ℕ). map coded xs ++ (0 ∷ [])) (ap butLast (map-listed (numberOf Lengths) count (groupAt octets)) ∙ last-listed count lengths)
+      ap (λ (xs : List ℕ). map coded xs ++ (0 ∷ [])) (ap butLast (map-listed (numberOf Lengths) count (groupAt octets)) ∙ but-last-listed count lengths)
       ∙ ap (λ (xs : List ℕ). xs ++ (0 ∷ [])) (map-listed coded (count - 1) lengths ∙ sym (codes-are (lengthsCoding t) octets (count - 1)))
 
   payload-is : payloadIn numbers t (groupsIn octets count) ≡ referencesPart ++ widthsPart ++ lengthsPart ++ valuesPart
