@@ -2,14 +2,14 @@
 use mathlib.Core.Path.{_≡_, refl, sym, ap, ap₂, _∙_}
 use mathlib.Core.Bool.{Bool, true, false}
 use mathlib.Core.List.{List, [], _∷_, _++_}
-use Prim.Native.Nat.{ℕ, suc, _+_, _-_, _*_, _≤_, _<_, max}
+use Prim.Native.Nat.{ℕ, suc, _+_, _-_, _*_, _≤_, _<_}
 use native.Mathlib.Numerals.{add-one}
 use native.Mathlib.Omega.{arith}
 use lib.Dec.{ltb}
 use lib.ListN.{length, getD, take, drop, drop-of-length-le}
 use lib.Seq.{slice, drop-cons, length-slice}
 use Rattle.format.specs.Lists.{greatest, least}
-use Rattle.format.specs.Grouping.{digitsIn, bits, widthOf, cost, endsBefore, groupsFrom, groupsOf}
+use Rattle.format.specs.Grouping.{bits, widthOf, cost, endsBefore, groupsFrom, groupsOf}
 use Rattle.format.specs.declared.Group.{Group}
 use Rattle.numbers.specs.Windows.{windowOf, widenedBy}
 use Rattle.numbers.specs.declared.Window.{Window}
@@ -32,17 +32,18 @@ pub record Open (list : List ℕ) (k added start : ℕ) (w : Window) (wide end l
 
 module _ (list : List ℕ) (k added start : ℕ) where
   -- "A group starts with one number."
-  pub open-start : start < length list → {w : Window} → w ≡ windowOf (getD list start 0 ∷ []) → Open list k added start w 0 (start + 1) (start + 1)
-  unfolding groupsOf greatest least widthOf bits digitsIn
-  open-start l ew =
+  pub open-start : start < length list → {w : Window} → w ≡ windowOf (getD list start 0 ∷ []) → {wide : ℕ} → (wide ≡ bits (w .greatest - w .least)) × (wide ≤ 32)
+      → Open list k added start w wide (start + 1) (start + 1)
+  unfolding groupsOf greatest least
+  open-start l ew eg =
       let one : slice start (start + 1) list ≡ getD list start 0 ∷ [] = rw (slice-snoc list start start 0 (omega arith) l, slice-none list start start (omega arith)) in
       let none : slice (start + 1) (start + 1) list ≡ [] = slice-none list (start + 1) (start + 1) (omega arith) in
       record {
         some = omega arith;
         within = omega arith;
         window = rw one ew;
-        width = rw one (let e : getD list start 0 - getD list start 0 ≡ 0 = omega arith in let d : max (getD list start 0) 0 ≡ getD list start 0 = omega arith in rw (d, e));
-        narrow = omega arith;
+        width = rw one (window-width (getD list start 0 ∷ []) ew (eg .0));
+        narrow = eg .1;
         flat = rw none;
         near = omega arith;
         there = omega arith;

@@ -128,8 +128,7 @@ pub fn next_group(numbers: &[u8], lookahead: usize, added: usize, start: usize) 
 {
     let count = numbers::count_of(numbers);
     let mut window = numbers::window_of(numbers::number_at(numbers, start));
-    // One number alone has width 0.
-    let mut wide = 0usize;
+    let mut wide = numbers::width(window);
     let mut end = start + 1;
     let mut level = end;
     while end < count {
