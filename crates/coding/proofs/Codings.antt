@@ -1,16 +1,15 @@
 -- The step of some lengths, and how lengths are coded. Assumes nothing.
-use mathlib.Core.Path.{_≡_, refl, sym, ap}
+use mathlib.Core.Path.{_≡_, sym}
 use mathlib.Core.List.{List, [], _∷_, _++_, map, map-append}
 use Prim.Native.Nat.{ℕ, _+_, _-_, _/_, _<_, _≤_}
 use native.Mathlib.Omega.{arith}
-use lib.ListN.{length, getD, length-append}
-use lib.Seq.{getD-at}
 use Rattle.format.specs.Lists.{listed, greatest, least}
 use Rattle.format.specs.Layout.{groupAt}
 use Rattle.format.specs.Grouping.{bits, digitsIn}
-use Rattle.format.specs.Packing.{gcd, gcdFrom, incrementOf, butLast, lengthCoding}
+use Rattle.format.specs.Packing.{gcd, gcdFrom, incrementOf, lengthCoding}
 use Rattle.format.specs.declared.Group.{Group}
 use Rattle.format.specs.declared.Lengths.{Lengths}
+use Rattle.laws.specs.Codes.{but-last-snoc, last-snoc}
 use Rattle.numbers.specs.declared.Window.{Window}
 use Rattle.numbers.specs.Windows.{windowOf}
 use Rattle.numbers.specs.declared.Field.the-variants as field
@@ -39,15 +38,6 @@ module _ (octets : List ℕ) (r : ℕ) {g : Group} where
 
 -- ---- the coding
 
-butLast-snoc : (xs : List ℕ) (x : ℕ) → butLast (xs ++ (x ∷ [])) ≡ xs
-unfolding butLast
-butLast-snoc [] x = refl
-butLast-snoc (y ∷ []) x = refl
-butLast-snoc (y ∷ z ∷ zs) x = ap (λ (l : List ℕ). y ∷ l) (butLast-snoc (z ∷ zs) x)
-
-last-snoc : (xs : List ℕ) (x : ℕ) → getD (xs ++ (x ∷ [])) (length (xs ++ (x ∷ [])) - 1) 0 ≡ x
-last-snoc xs x = getD-at xs x [] 0 _ (omega (arith, length-append xs (x ∷ [])))
-
 -- the coding, from the window of all lengths but the last
 abbrev codedBy : Window → ℕ → ℕ → ℕ → Lengths
 codedBy w increment last n = record { reference = w .least; increment = increment; last = last; bits = n }
@@ -55,7 +45,7 @@ codedBy w increment last n = record { reference = w .least; increment = incremen
 lengths-snoc : (xs : List ℕ) (x : ℕ) → let i = incrementOf (gcdFrom 0 (differences (least xs) xs)) in
     lengthCoding (xs ++ (x ∷ [])) ≡ codedBy (windowOf xs) i x (bits ((greatest xs - least xs) / i))
 unfolding lengthCoding
-lengths-snoc xs x = rw (butLast-snoc xs x, last-snoc xs x, greatest-less (least xs) xs)
+lengths-snoc xs x = rw (but-last-snoc xs x, last-snoc xs x, greatest-less (least xs) xs)
 
 module _ (octets : List ℕ) (n : ℕ) {g : Group} (eg : g ≡ groupAt octets (n - 1)) where
   -- of one length, and of more

@@ -8,11 +8,12 @@ use Rattle.format.specs.Lists.{listed, greatest, least}
 use Rattle.format.specs.Layout.{groupAt, groupsIn}
 use Rattle.format.specs.declared.Group.{Group}
 use Rattle.laws.specs.Lists.{map-listed, listed-more, length-listed, getD-listed}
-use Rattle.laws.specs.Extremes.{greatest-snoc, least-snoc, least-lower, least-greatest}
+use Rattle.laws.specs.Extremes.{least-lower}
 use Rattle.numbers.specs.declared.Field.{Field}
 use Rattle.numbers.specs.declared.Window.{Window}
 use Rattle.numbers.specs.Windows.{windowOf, widenedBy}
 use Rattle.numbers.specs.Records.{numberOf}
+use Rattle.numbers.proofs.Windows.{window-more}
 
 -- ---- any numbers
 
@@ -22,12 +23,8 @@ unfolding greatest
 greatest-less r [] = omega arith
 greatest-less r (x ∷ xs) = omega (arith, greatest-less r xs)
 
-module _ (xs : List ℕ) {w : Window} (e : w ≡ windowOf xs) where
-  pub window-least : w .least ≤ least xs
-  window-least = rw e (omega arith)
-
-  pub window-ordered : w .least ≤ w .greatest
-  window-ordered = rw e (least-greatest xs)
+pub window-least : (xs : List ℕ) {w : Window} → w ≡ windowOf xs → w .least ≤ least xs
+window-least xs e = rw e (omega arith)
 
 -- ---- those of groups
 
@@ -60,8 +57,7 @@ module _ (field : Field) (octets : List ℕ) where
   -- a turn of a loop that widens a window
   pub window-next : (k : ℕ) {w v : Window} {g : Group} {x : ℕ} → 0 < k → w ≡ windowOf (firsts k) → g ≡ groupAt octets k → x ≡ numberOf field g → v ≡ widenedBy w x
       → v ≡ windowOf (firsts (k + 1))
-  window-next k {w} {v} {g} {x} p ew eg ex ev =
-      rw (ev, ew, ex, eg, firsts-next k, greatest-snoc (firsts k) (one k), least-snoc (firsts k) (one k) (rw (length-firsts k) p))
+  window-next k p ew eg ex ev = rw (firsts-next k) (window-more (firsts k) ew (one k) (rw (length-firsts k) p) (ex ∙ ap (numberOf field) eg) ev)
 
   pub least-below : (k i : ℕ) → i < k → least (firsts k) ≤ one i
   least-below k i l = rw (← getD-firsts k i l) (least-lower (firsts k) i (rw (length-firsts k) l))

@@ -1,46 +1,27 @@
 -- What is packed from the records of the groups is what document 01 makes of the groups. Assumes nothing.
 use mathlib.Core.Path.{_≡_, refl, sym, ap, ap₂, _∙_}
 use mathlib.Core.List.{List, [], _∷_, _++_, map, flatMap}
-use Prim.Native.Nat.{ℕ, suc, _+_, _-_, _*_, _/_, _^_, _≤_, _<_}
+use Prim.Native.Nat.{ℕ, suc, _-_, _*_, _^_, _≤_, _<_}
 use native.Mathlib.Nat.{mul-le-mul-left}
 use native.Mathlib.Omega.{arith}
 use lib.ListN.{length, getD, length-append}
 use Rattle.format.specs.Lists.{greatest, least}
 use Rattle.format.specs.Bits.{stringOf}
 use Rattle.format.specs.Layout.{inFours, groupNumbers, groupSize, groupAt, groupsIn}
-use Rattle.format.specs.Grouping.{bits, widthOf, recordsFrom}
-use Rattle.format.specs.Packing.{padded, lengthCodes, butLast, templateOf, valueString, payloadOf}
+use Rattle.format.specs.Grouping.{widthOf, recordsFrom}
+use Rattle.format.specs.Packing.{padded, lengthCodes, templateOf, valueString, payloadOf}
 use Rattle.format.specs.declared.Group.{Group}
-use Rattle.format.specs.declared.Lengths.{Lengths}
 use Rattle.format.specs.declared.Template.{Template}
-use Rattle.format.specs.declared.Widths.{Widths}
-use Rattle.laws.specs.Lists.{length-map, length-listed, getD-listed}
+use Rattle.laws.specs.Lists.{length-map, getD-listed}
+use Rattle.laws.specs.Bits.{product}
 use Rattle.laws.specs.Strings.{length-string}
 use Rattle.laws.specs.Groups.{allOf, NoneEmpty, length-records, records-map, RecordOf, record-of, Fits, groups-read-back}
 use Rattle.numbers.specs.Records.{numberOf}
 use Rattle.numbers.specs.declared.Field.the-variants as field
 use Rattle.section7.specs.Parts.{valueStringOf, Valued, Sound, payloadIn}
 use Rattle.section7.proofs.Values.{least-upto, values-wide}
-use Rattle.section7.proofs.Aligned.{length-padded}
-use Rattle.section7.proofs.Payload.{width-top, widths-top, lengths-top}
+use Rattle.section7.proofs.Payload.{width-top, widths-top, lengths-top, payload-length, values-length}
 use Rattle.encoder.specs.Whole.{templateIn, octetsIn}
-
--- ---- sizes
-
-upto : (w : ℕ) (xs : List ℕ) {n : ℕ} → length xs ≡ n → w ≤ 32 → length (stringOf w xs) ≤ n * 32
-upto w xs {n} e l = rw (length-string w xs, e) (mul-le-mul-left n l)
-
-length-but-last : (xs : List ℕ) → length (butLast xs) ≡ length xs - 1
-unfolding butLast
-length-but-last [] = refl
-length-but-last (x ∷ []) = refl
-length-but-last (x ∷ y ∷ ys) = omega (arith, length-but-last (y ∷ ys))
-
-length-codes : (l : Lengths) (xs : List ℕ) → 0 < length xs → length (lengthCodes l xs) ≡ length xs
-unfolding lengthCodes
-length-codes l xs h =
-    let code : ℕ → ℕ = λ x. (x - l .reference) / l .increment in
-    omega (arith, length-append (map code (butLast xs)) (0 ∷ []), length-map code (butLast xs), length-but-last xs)
 
 -- ---- the template
 
@@ -150,27 +131,16 @@ module _ (numbers : List ℕ) (groups : List (List ℕ)) (e : allOf groups ≡ n
 
       pub payload-short : length (octetsIn numbers (groupsIn octets (length records))) < 2 ^ 32
       payload-short =
-          let rs = groupsIn octets (length records) in
-          let references = stringOf (t .width) (map (numberOf field.References) rs) in
-          let wides = stringOf (t .widths .bits) (map (λ g. numberOf field.Widths g - t .widths .reference) rs) in
-          let codes = lengthCodes (t .lengths) (map (numberOf field.Lengths) rs) in
-          let longs = stringOf (t .lengths .bits) codes in
-          let values = flatMap (valueStringOf numbers) rs in
-          let n : length rs ≡ length records = length-listed (length records) (groupAt octets) in
           let wide : (j : ℕ) → j < length groups → widthOf (getD groups j []) ≤ 32 =
           λ j l. let own = recorded (groupAt [] 0) j l in rw (← own .width) (values-wide (valued own) below) in
-          let v : length values ≤ length numbers * 32 = rw (back, value-strings numbers groups records (length-records 0 groups) recorded) (rw e at (values-upto groups wide)) in
+          let values = rw (back, value-strings numbers groups records (length-records 0 groups) recorded) at (values-length sound) in
           omega (
             arith,
-            sound .few,
-            length-append (padded references) (padded wides),
-            length-append (padded references ++ padded wides) (padded longs),
-            length-append (padded references ++ padded wides ++ padded longs) (padded values),
-            length-padded references,
-            length-padded wides,
-            length-padded longs,
-            length-padded values,
-            upto (t .width) (map (numberOf field.References) rs) (length-map (numberOf field.References) rs ∙ n) (width-top sound refl below),
-            upto (t .widths .bits) (map (λ g. numberOf field.Widths g - t .widths .reference) rs) (length-map (λ g. numberOf field.Widths g - t .widths .reference) rs ∙ n) (widths-top sound refl),
-            upto (t .lengths .bits) codes (length-codes (t .lengths) (map (numberOf field.Lengths) rs) (omega (arith, sound .some, length-map (numberOf field.Lengths) rs)) ∙ length-map (numberOf field.Lengths) rs ∙ n) (lengths-top sound refl),
+            payload-length t numbers octets (length records) sound,
+            product (length records) (t .width) 4194304 32 (sound .few) (width-top sound refl below),
+            product (length records) (t .widths .bits) 4194304 32 (sound .few) (widths-top sound refl),
+            product (length records) (t .lengths .bits) 4194304 32 (sound .few) (lengths-top sound refl),
+            values,
+            values-upto groups wide,
+            ap length e,
           )

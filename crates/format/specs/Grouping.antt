@@ -25,30 +25,32 @@ bits x = digitsIn x x
 unfoldable pub widthOf : List ℕ → ℕ
 widthOf numbers = bits (greatest numbers - least numbers)
 
--- The rule, over the width of some numbers and a cost that is added for ending a group.
-module _ {A : Type 0} (width : List A → ℕ) (added : ℕ) where
+-- The rule, over the width of some numbers.
+module _ {A : Type 0} (width : List A → ℕ) where
   -- "their count × bits(their max − min)"
   abbrev pub cost : List A → ℕ
   cost numbers = length numbers * width numbers
 
-  -- "look at the next number: new width w' includes it. The look-ahead takes up to k numbers from that one on [..] If len·w +
-  -- that cost is less than (len + 1)·w', the group ends before it; otherwise it is taken in."
-  unfoldable pub endsBefore : ℕ → List A → A → List A → Bool
-  endsBefore k group next after =
-      ltb (cost group + (cost (take k (next ∷ after)) + added)) (cost (group ++ (next ∷ [])))
+  -- and over a cost that is added for ending a group
+  module _ (added : ℕ) where
+    -- "look at the next number: new width w' includes it. The look-ahead takes up to k numbers from that one on [..] If len·w +
+    -- that cost is less than (len + 1)·w', the group ends before it; otherwise it is taken in."
+    unfoldable pub endsBefore : ℕ → List A → A → List A → Bool
+    endsBefore k group next after =
+        ltb (cost group + (cost (take k (next ∷ after)) + added)) (cost (group ++ (next ∷ [])))
 
-  -- the group so far, and the numbers after it
-  unfoldable pub groupsFrom : ℕ → List A → List A → List (List A)
-  groupsFrom k group [] = group ∷ []
-  groupsFrom k group (next ∷ after) =
-      cond (endsBefore k group next after)
-      (group ∷ groupsFrom k (next ∷ []) after)
-      (groupsFrom k (group ++ (next ∷ [])) after)
+    -- the group so far, and the numbers after it
+    unfoldable pub groupsFrom : ℕ → List A → List A → List (List A)
+    groupsFrom k group [] = group ∷ []
+    groupsFrom k group (next ∷ after) =
+        cond (endsBefore k group next after)
+        (group ∷ groupsFrom k (next ∷ []) after)
+        (groupsFrom k (group ++ (next ∷ [])) after)
 
-  -- "A group starts with one number."
-  unfoldable pub groupsOf : ℕ → List A → List (List A)
-  groupsOf k [] = []
-  groupsOf k (number ∷ after) = groupsFrom k (number ∷ []) after
+    -- "A group starts with one number."
+    unfoldable pub groupsOf : ℕ → List A → List (List A)
+    groupsOf k [] = []
+    groupsOf k (number ∷ after) = groupsFrom k (number ∷ []) after
 
 -- "four numbers each: start, length, least number, width"
 unfoldable pub recordsFrom : ℕ → List (List ℕ) → List Group

@@ -1,16 +1,17 @@
 -- Windows over parts of a list, and parts whose numbers are all equal. Assumes nothing.
 use mathlib.Core.Path.{_≡_, refl, sym, ap, ap₂, _∙_}
 use mathlib.Core.List.{List, [], _∷_}
-use Prim.Native.Nat.{ℕ, suc, _+_, _-_, _≤_, _<_, max}
+use Prim.Native.Nat.{ℕ, suc, _+_, _≤_, _<_, max}
 use native.Mathlib.Numerals.{add-one}
 use native.Mathlib.Omega.{arith, max-cases}
 use lib.ListN.{length, getD, take, drop}
 use lib.Seq.{slice, slice-cons, length-slice}
 use Rattle.format.specs.Lists.{greatest, least}
 use Rattle.format.specs.Grouping.{widthOf}
-use Rattle.laws.specs.Extremes.{greatest-upper, least-lower, least-greatest, greatest-snoc, least-snoc, width-more}
+use Rattle.laws.specs.Extremes.{greatest-upper, least-lower, least-greatest, width-more}
 use Rattle.numbers.specs.Windows.{windowOf, widenedBy}
 use Rattle.numbers.specs.declared.Window.{Window}
+use Rattle.numbers.proofs.Windows.{window-more}
 use Rattle.grouping.specs.Rule.{Level}
 use Rattle.grouping.proofs.Slices.{slice-snoc, slice-none, slice-longer}
 
@@ -21,10 +22,8 @@ window l g = record { least = l; greatest = g }
 
 module _ (l : List ℕ) (f t : ℕ) (h : f < t) where
   -- one number more
-  pub window-next : t < length l → windowOf (slice f (t + 1) l) ≡ widenedBy (windowOf (slice f t l)) (getD l t 0)
-  window-next k =
-      let n = length-slice f t l (omega arith) in
-      rw (slice-snoc l f t 0 (omega arith) k) (ap₂ window (least-snoc (slice f t l) (getD l t 0) (omega arith)) (greatest-snoc (slice f t l) (getD l t 0)))
+  pub window-next : t < length l → {w v : Window} {x : ℕ} → w ≡ windowOf (slice f t l) → x ≡ getD l t 0 → v ≡ widenedBy w x → v ≡ windowOf (slice f (t + 1) l)
+  window-next k ew ex ev = rw (slice-snoc l f t 0 (omega arith) k) (window-more (slice f t l) ew (getD l t 0) (omega (arith, length-slice f t l (omega arith))) ex ev)
 
   -- and as many more as are wanted: no narrower
   pub width-longer : (m : ℕ) → t ≤ m → m ≤ length l → widthOf (slice f t l) ≤ widthOf (slice f m l)
@@ -65,7 +64,7 @@ module _ (l : List ℕ) (f t : ℕ) where
     -- one more of them
     pub level-next : t < length l → getD l t 0 ≡ getD l f 0 → Level (slice f (t + 1) l)
     level-next m d =
-        let w = window-next l f t h m in
+        let w = window-next l f t h m refl refl refl in
         omega (arith, ap (λ (x : Window). x .least) w, ap (λ (x : Window). x .greatest) w, least-first l f t h k, greatest-first l f t h k)
 
   -- of one number

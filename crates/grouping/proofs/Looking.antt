@@ -11,9 +11,9 @@ use lib.ListN.{length, getD, take, drop}
 use lib.Seq.{slice, length-slice}
 use Rattle.format.specs.Lists.{greatest, least}
 use Rattle.format.specs.Grouping.{digitsIn, bits, widthOf, cost}
-use Rattle.laws.specs.Extremes.{least-greatest}
 use Rattle.numbers.specs.Windows.{windowOf, widenedBy}
 use Rattle.numbers.specs.declared.Window.{Window}
+use Rattle.numbers.proofs.Windows.{window-ordered, window-width}
 use Rattle.grouping.specs.Rule.{Level, Known}
 use Rattle.grouping.proofs.Slices.{reach-takes}
 use Rattle.grouping.proofs.Levels.{window-next, width-longer, level-window}
@@ -42,20 +42,17 @@ module _ (list : List ℕ) (end reach keep extend : ℕ) (far : reach ≤ length
 
   module _ {w : Window} {i : ℕ} (s : Looking list end reach keep extend w i) (l : i < reach) {x : ℕ} {w′ : Window} (ex : x ≡ getD list i 0) (ew : w′ ≡ widenedBy w x) where
     next-window : w′ ≡ windowOf (slice end (i + 1) list)
-    next-window =
-        ew ∙ ap (widenedBy w) ex ∙ ap (λ (v : Window). widenedBy v (getD list i 0)) (s .window)
-        ∙ sym (window-next list end i (s .from) (omega arith))
+    next-window = window-next list end i (s .from) (omega arith) (s .window) ex ew
 
     pub next-ordered : w′ .least ≤ w′ .greatest
-    next-ordered = rw next-window (least-greatest (slice end (i + 1) list))
+    next-ordered = window-ordered (slice end (i + 1) list) next-window
 
     module _ {y z : ℕ} (ey : (y ≡ bits (w′ .greatest - w′ .least)) × (y ≤ 32)) (ez : (z ≡ (reach - end) * y) × (z ≤ (reach - end) * 32)) where
       next-width : z ≡ (reach - end) * widthOf (slice end (i + 1) list)
-      unfolding widthOf
-      next-width = ez .0 ∙ ap (λ (n : ℕ). (reach - end) * n) (ey .0 ∙ ap (λ (v : Window). bits (v .greatest - v .least)) next-window)
+      next-width = ez .0 ∙ ap (λ (n : ℕ). (reach - end) * n) (window-width (slice end (i + 1) list) next-window (ey .0))
 
       -- a longer piece has no smaller range
-      pub looking-stops : extend ≤ keep + z → false ≡ ltb (keep + cost widthOf 0 (slice end reach list)) extend
+      pub looking-stops : extend ≤ keep + z → false ≡ ltb (keep + cost widthOf (slice end reach list)) extend
       looking-stops h =
           let n = length-slice end reach list far in
           let m = mul-le-mul-left (reach - end) (width-longer list end (i + 1) (omega (arith, s .from)) reach (omega arith) far) in
@@ -69,7 +66,7 @@ module _ (list : List ℕ) (end reach keep extend : ℕ) (far : reach ≤ length
         under = omega (arith, next-width);
       }
 
-  pub looking-end : {w : Window} {i : ℕ} → Looking list end reach keep extend w i → reach ≤ i → true ≡ ltb (keep + cost widthOf 0 (slice end reach list)) extend
+  pub looking-end : {w : Window} {i : ℕ} → Looking list end reach keep extend w i → reach ≤ i → true ≡ ltb (keep + cost widthOf (slice end reach list)) extend
   looking-end {i = i} s h =
       let e : i ≡ reach = omega (arith, s .within) in
       let u = rw e at (s .under) in
@@ -78,14 +75,14 @@ module _ (list : List ℕ) (end reach keep extend : ℕ) (far : reach ≤ length
 -- ---- what looking ahead answers
 
 module _ (list : List ℕ) (k end keep extend : ℕ) where
-  pub not-dearer : extend ≤ keep → false ≡ ltb (keep + cost widthOf 0 (take k (drop end list))) extend
-  not-dearer h = sym (le-ltb (keep + cost widthOf 0 (take k (drop end list))) extend (omega arith))
+  pub not-dearer : extend ≤ keep → false ≡ ltb (keep + cost widthOf (take k (drop end list))) extend
+  not-dearer h = sym (le-ltb (keep + cost widthOf (take k (drop end list))) extend (omega arith))
 
   module _ {count reach : ℕ} (ec : count ≡ length list) (er : reach ≡ end + min k (count - end)) (there : end < length list) where
-    pub looked : {b : Bool} → b ≡ ltb (keep + cost widthOf 0 (slice end reach list)) extend → b ≡ ltb (keep + cost widthOf 0 (take k (drop end list))) extend
+    pub looked : {b : Bool} → b ≡ ltb (keep + cost widthOf (slice end reach list)) extend → b ≡ ltb (keep + cost widthOf (take k (drop end list))) extend
     looked e =
         let d : slice end reach list ≡ take k (drop end list) = rw (er, ec) (sym (reach-takes list k end (omega arith))) in
-        e ∙ ap (λ (l : List ℕ). ltb (keep + cost widthOf 0 l) extend) d
+        e ∙ ap (λ (l : List ℕ). ltb (keep + cost widthOf l) extend) d
 
     pub known : {level : ℕ} → (end < level) × (level ≤ reach) × Level (slice end level list) → Known list k end level
     known h = record { there = there; flat = h .2; within = omega (arith, h .1); near = omega (arith, h .1) }

@@ -15,10 +15,6 @@ module _ {A : Type 0} (l : List A) where
   pub slice-none : (f t : ℕ) → t ≤ f → slice f t l ≡ []
   slice-none f t h = drop-of-length-le (take t l) {i = f} (omega (arith, length-take t l))
 
-  -- a part as far as the end
-  pub slice-end : (f t : ℕ) → length l ≤ t → slice f t l ≡ drop f l
-  slice-end f t h = ap (drop f) (take-all t l h)
-
   -- a longer part begins with a shorter one
   pub slice-longer : (f m t : ℕ) → f ≤ m → m ≤ t → t ≤ length l → slice f t l ≡ slice f m l ++ drop m (take t l)
   slice-longer f m t h i k =

@@ -2,18 +2,18 @@
 use mathlib.Core.Path.{_≡_, refl, sym, ap, ap₂, _∙_}
 use mathlib.Core.Bool.{Bool, true, false}
 use mathlib.Core.List.{List, [], _∷_, _++_}
-use Prim.Native.Nat.{ℕ, suc, _+_, _-_, _*_, _≤_, _<_, max}
+use Prim.Native.Nat.{ℕ, suc, _+_, _-_, _*_, _≤_, _<_}
 use native.Mathlib.Numerals.{add-one}
 use native.Mathlib.Omega.{arith}
 use lib.Dec.{ltb}
 use lib.ListN.{length, getD, take, drop, drop-of-length-le}
 use lib.Seq.{slice, drop-cons, length-slice}
 use Rattle.format.specs.Lists.{greatest, least}
-use Rattle.format.specs.Grouping.{digitsIn, bits, widthOf, cost, endsBefore, groupsFrom, groupsOf}
+use Rattle.format.specs.Grouping.{bits, widthOf, cost, endsBefore, groupsFrom, groupsOf}
 use Rattle.format.specs.declared.Group.{Group}
-use Rattle.laws.specs.Extremes.{least-greatest}
 use Rattle.numbers.specs.Windows.{windowOf, widenedBy}
 use Rattle.numbers.specs.declared.Window.{Window}
+use Rattle.numbers.proofs.Windows.{window-ordered, window-width}
 use Rattle.grouping.specs.Rule.{Level, Known, Next}
 use Rattle.grouping.proofs.Slices.{slice-snoc, slice-none}
 use Rattle.grouping.proofs.Levels.{window-next, level-later}
@@ -32,17 +32,18 @@ pub record Open (list : List ℕ) (k added start : ℕ) (w : Window) (wide end l
 
 module _ (list : List ℕ) (k added start : ℕ) where
   -- "A group starts with one number."
-  pub open-start : start < length list → {w : Window} → w ≡ windowOf (getD list start 0 ∷ []) → Open list k added start w 0 (start + 1) (start + 1)
-  unfolding groupsOf greatest least widthOf bits digitsIn
-  open-start l ew =
+  pub open-start : start < length list → {w : Window} → w ≡ windowOf (getD list start 0 ∷ []) → {wide : ℕ} → (wide ≡ bits (w .greatest - w .least)) × (wide ≤ 32)
+      → Open list k added start w wide (start + 1) (start + 1)
+  unfolding groupsOf greatest least
+  open-start l ew eg =
       let one : slice start (start + 1) list ≡ getD list start 0 ∷ [] = rw (slice-snoc list start start 0 (omega arith) l, slice-none list start start (omega arith)) in
       let none : slice (start + 1) (start + 1) list ≡ [] = slice-none list (start + 1) (start + 1) (omega arith) in
       record {
         some = omega arith;
         within = omega arith;
         window = rw one ew;
-        width = rw one (let e : getD list start 0 - getD list start 0 ≡ 0 = omega arith in let d : max (getD list start 0) 0 ≡ getD list start 0 = omega arith in rw (d, e));
-        narrow = omega arith;
+        width = rw one (window-width (getD list start 0 ∷ []) ew (eg .0));
+        narrow = eg .1;
         flat = rw none;
         near = omega arith;
         there = omega arith;
@@ -58,31 +59,28 @@ module _ (list : List ℕ) (k added start : ℕ) where
 
     module _ {x : ℕ} {w′ : Window} (ex : x ≡ next) (ew : w′ ≡ widenedBy w x) where
       wider : w′ ≡ windowOf (slice start (end + 1) list)
-      wider =
-          ew ∙ ap (widenedBy w) ex ∙ ap (λ (v : Window). widenedBy v next) (s .window)
-          ∙ sym (window-next list start end (s .some) l)
+      wider = window-next list start end (s .some) l (s .window) ex ew
 
       pub wider-ordered : w′ .least ≤ w′ .greatest
-      wider-ordered = rw wider (least-greatest (slice start (end + 1) list))
+      wider-ordered = window-ordered (slice start (end + 1) list) wider
 
       module _ {grown : ℕ} (eg : (grown ≡ bits (w′ .greatest - w′ .least)) × (grown ≤ 32)) where
         wider-width : grown ≡ widthOf (slice start (end + 1) list)
-        unfolding widthOf
-        wider-width = eg .0 ∙ ap (λ (v : Window). bits (v .greatest - v .least)) wider
+        wider-width = window-width (slice start (end + 1) list) wider (eg .0)
 
         -- the comparison, as the rule has it
         module _ {kept keep extend : ℕ} (e₁ : (kept ≡ (end - start) * wide) × (kept ≤ (end - start) * 32)) (e₂ : keep ≡ kept + added)
             (e₃ : (extend ≡ (end - start + 1) * grown) × (extend ≤ (end - start + 1) * 32)) {b : Bool}
-            (eb : b ≡ ltb (keep + cost widthOf 0 (take k (drop end list))) extend) where
+            (eb : b ≡ ltb (keep + cost widthOf (take k (drop end list))) extend) where
           rule : b ≡ endsBefore widthOf added k (slice start end list) next (drop (suc end) list)
           unfolding endsBefore
           rule =
               let n : length (slice start end list) ≡ end - start = length-slice start end list (s .within) in
               let m : length (slice start (end + 1) list) ≡ end - start + 1 = length-slice start (end + 1) list (omega arith) ∙ omega (arith, s .some) in
-              let c₁ : cost widthOf 0 (slice start end list) ≡ (end - start) * wide = rw (n, s .width) in
-              let c₂ : cost widthOf 0 (slice start (end + 1) list) ≡ (end - start + 1) * grown = rw (m, wider-width) in
-              let ahead = cost widthOf 0 (take k (drop end list)) in
-              let a : keep + ahead ≡ cost widthOf 0 (slice start end list) + (ahead + added) = omega (arith, e₁ .0, c₁) in
+              let c₁ : cost widthOf (slice start end list) ≡ (end - start) * wide = rw (n, s .width) in
+              let c₂ : cost widthOf (slice start (end + 1) list) ≡ (end - start + 1) * grown = rw (m, wider-width) in
+              let ahead = cost widthOf (take k (drop end list)) in
+              let a : keep + ahead ≡ cost widthOf (slice start end list) + (ahead + added) = omega (arith, e₁ .0, c₁) in
               eb ∙ ap₂ ltb a (e₃ .0 ∙ sym c₂) ∙ rw (drop-cons list end 0 l, longer)
 
           -- "the group ends before it"

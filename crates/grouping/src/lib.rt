@@ -63,7 +63,7 @@ fn is_less(
 ) -> bool
     requires { ⌜ (end < level) × (level ≤ reach) × (reach ≤ length (numbersIn (now numbers))) × (reach ≤ end + 65535) × Level (slice end level (numbersIn (now numbers))) ⌝ }
     requires { ⌜ (keep < extend) × (extend < 2 ^ 32) ⌝ }
-    ensures { λ r. ⌜ r ≡ ltb (keep + cost widthOf 0 (slice end reach (numbersIn (now (numbers .entry))))) extend ⌝ }
+    ensures { λ r. ⌜ r ≡ ltb (keep + cost widthOf (slice end reach (numbersIn (now (numbers .entry))))) extend ⌝ }
 {
     let count = reach - end;
     let mut window = numbers::window_of(numbers::number_at(numbers, end));
@@ -95,7 +95,7 @@ fn look_ahead(
     extend: usize,
 ) -> Look
     requires { ⌜ Limits (numbersIn (now numbers)) lookahead 0 × Known (numbersIn (now numbers)) lookahead end level × (extend < 2 ^ 32) ⌝ }
-    ensures { λ r. ⌜ (r .ends ≡ ltb (keep + cost widthOf 0 (take lookahead (drop end (numbersIn (now (numbers .entry)))))) extend) × Known (numbersIn (now (numbers .entry))) lookahead end (r .level) ⌝ }
+    ensures { λ r. ⌜ (r .ends ≡ ltb (keep + cost widthOf (take lookahead (drop end (numbersIn (now (numbers .entry)))))) extend) × Known (numbersIn (now (numbers .entry))) lookahead end (r .level) ⌝ }
 {
     if extend <= keep {
         return Look { ends: false, level };
@@ -128,8 +128,7 @@ pub fn next_group(numbers: &[u8], lookahead: usize, added: usize, start: usize) 
 {
     let count = numbers::count_of(numbers);
     let mut window = numbers::window_of(numbers::number_at(numbers, start));
-    // One number alone has width 0.
-    let mut wide = 0usize;
+    let mut wide = numbers::width(window);
     let mut end = start + 1;
     let mut level = end;
     while end < count {

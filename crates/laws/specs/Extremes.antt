@@ -6,7 +6,7 @@ use native.Mathlib.Nat.{not-suc-le-zero}
 use native.Mathlib.Numerals.{add-one}
 use native.Mathlib.Omega.{arith}
 use lib.ListN.{length, getD, take}
-use lib.Seq.{take-suc, length-take-le}
+use lib.Seq.{take-suc}
 use Rattle.format.specs.Lists.{greatest, least}
 use Rattle.format.specs.Grouping.{widthOf}
 use Rattle.laws.specs.Digits.{bits-mono, bits-within}
@@ -75,6 +75,3 @@ fits-width xs k l = bits-within (getD xs k 0 - least xs) (greatest xs - least xs
 
 pub greatest-next : (xs : List ℕ) (k : ℕ) → k < length xs → greatest (take (k + 1) xs) ≡ max (greatest (take k xs)) (getD xs k 0)
 greatest-next xs k l = rw (add-one k, take-suc xs k 0 l) (greatest-snoc (take k xs) (getD xs k 0))
-
-pub least-next : (xs : List ℕ) (k : ℕ) → 0 < k → k < length xs → least (take (k + 1) xs) ≡ min (least (take k xs)) (getD xs k 0)
-least-next xs k p l = rw (add-one k, take-suc xs k 0 l) (least-snoc (take k xs) (getD xs k 0) (omega (arith, length-take-le k xs (omega arith))))

@@ -5,6 +5,7 @@ pub mod Bits
 pub mod Strings
 pub mod Digits
 pub mod Extremes
+pub mod Codes
 pub mod Spans
 pub mod Written
 pub mod Fields

@@ -1,14 +1,13 @@
 -- What is listed: mapped, cut, joined, and between bounds. Assumes nothing.
 use mathlib.Core.Path.{_≡_, refl, sym, ap, _∙_}
 use mathlib.Core.List.{List, [], _∷_, flatMap, append-nil}
-use Prim.Native.Nat.{ℕ, zero, suc, _+_, _-_, _/_, _≤_, _<_}
+use Prim.Native.Nat.{ℕ, zero, suc, _+_, _/_, _≤_, _<_}
 use native.Mathlib.Nat.{le-trans, le-div-iff-mul-le, div-mul-le-self, div-zero}
 use native.Mathlib.Numerals.{add-one}
 use native.Mathlib.Omega.{arith}
 use lib.ListN.{length, getD, take}
 use lib.Seq.{slice, length-slice, getD-drop, getD-take, ext-getD}
 use Rattle.format.specs.Lists.{listed, joined, greatest, least}
-use Rattle.format.specs.Packing.{butLast}
 use Rattle.laws.specs.Lists.{length-listed, getD-listed, listed-more}
 use Rattle.laws.specs.Extremes.{greatest-upper, least-lower}
 use Rattle.laws.specs.Stores.{flat-append}
@@ -26,14 +25,6 @@ slice-listed xs a n h =
     let long : length (slice a (a + n) xs) ≡ n = length-slice a (a + n) xs h ∙ omega arith in
     ext-getD 0 _ _ (long ∙ sym (length-listed n (λ i. getD xs (a + i) 0)))
     (λ i l. getD-drop a (take (a + n) xs) i 0 ∙ getD-take (a + n) xs (a + i) 0 (omega (arith, long)) ∙ sym (getD-listed n (λ j. getD xs (a + j) 0) 0 i (omega (arith, long))))
-
-pub last-listed : (n : ℕ) (f : ℕ → ℕ) → butLast (listed n f) ≡ listed (n - 1) f
-unfolding butLast listed
-last-listed zero f = refl
-last-listed (suc zero) f = refl
-last-listed (suc (suc n)) f =
-    let e : suc (suc n) - 1 ≡ suc (suc n - 1) = omega arith in
-    rw e (ap (λ (l : List ℕ). f 0 ∷ l) (last-listed (suc n) (λ i. f (suc i))))
 
 module _ (n : ℕ) (f : ℕ → ℕ) where
   pub greatest-at : (k : ℕ) → k < n → f k ≤ greatest (listed n f)

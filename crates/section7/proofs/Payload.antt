@@ -1,7 +1,7 @@
 -- The payload of the groups in a lent list, from its four parts. Assumes nothing.
 use mathlib.Core.Path.{_≡_, sym, ap, ap₂, _∙_}
 use mathlib.Core.Bool.{false}
-use mathlib.Core.List.{List, [], _∷_, _++_, map}
+use mathlib.Core.List.{List, [], _∷_, _++_, map, flatMap}
 use Prim.Native.Nat.{ℕ, zero, suc, _+_, _-_, _*_, _/_, _^_, _≤_, _<_}
 use native.Mathlib.Nat.{zero-add, div-zero, div-le-self}
 use native.Mathlib.Omega.{arith}
@@ -24,13 +24,14 @@ use Rattle.format.specs.declared.Stored.the-variants as stored
 use Rattle.format.specs.declared.Template.{Template}
 use Rattle.laws.specs.Lists.{map-listed, listed-ext}
 use Rattle.laws.specs.Bits.{bit-lt, number-lt}
+use Rattle.laws.specs.Codes.{but-last-listed}
 use Rattle.laws.specs.Digits.{bits-le, bits-within}
 use Rattle.laws.specs.Stores.{sets-append, sets-front}
 use Rattle.numbers.specs.Records.{numberOf, codedTemplate}
 use Rattle.numbers.specs.declared.Field.the-variants.{References, Widths, Lengths}
-use Rattle.section7.specs.Parts.{codeOf, codesOf, valueStringOf, valueBits, Codable, Sound, Narrow, placesFor, payloadIn, payloadLent}
+use Rattle.section7.specs.Parts.{codeOf, codesOf, referencesCoding, widthsCoding, lengthsCoding, valueStringOf, valueBits, Codable, Sound, Narrow, placesFor, payloadIn, payloadLent}
 use Rattle.section7.specs.declared.Coding.{Coding}
-use Rattle.section7.proofs.Listing.{flat-listed, last-listed, greatest-at, least-at, greatest-upto, divided-le}
+use Rattle.section7.proofs.Listing.{flat-listed, greatest-at, least-at, greatest-upto, divided-le}
 use Rattle.section7.proofs.Aligned.{length-padded}
 use Rattle.section7.proofs.Values.{values-wide, least-upto, size-all}
 use Rattle.section7.proofs.Codings.{codes-are, size-codes, size-last}
@@ -40,22 +41,17 @@ use Rattle.section7.proofs.Codings.{codes-are, size-codes, size-last}
 sets-then : (lent xs ys : List ℕ) {p q : List ℕ} {at : ℕ} → p ≡ sets lent 0 xs → q ≡ sets p at ys → at ≡ length xs → q ≡ sets lent 0 (xs ++ ys)
 sets-then lent xs ys ep eq ea = eq ∙ ap₂ (λ (p : List ℕ) (i : ℕ). sets p i ys) ep (ea ∙ sym (zero-add (length xs))) ∙ sets-append lent 0 xs ys
 
-module _ (a b c d lent : List ℕ) where
+module _ (a b c d : List ℕ) where
   four-size : length (a ++ b ++ c ++ d) ≡ length a + length b + length c + length d
   four-size = omega (arith, length-append a b, length-append (a ++ b) c, length-append (a ++ b ++ c) d)
 
-  four-refused : length lent < length a + length b + length c + length d → left (stored.Refused Room) lent ≡ payloadLent (a ++ b ++ c ++ d) lent
-  unfolding first
-  four-refused l = rw (lt-ltb (length lent) (length (a ++ b ++ c ++ d)) (omega (arith, four-size)))
-
-  four-stored : {end : OctetPlace} → end .0 ≤ length lent → end .0 ≡ length a + length b + length c + length d → {p q r s : List ℕ} {i j k : ℕ}
+  four-stored : (lent : List ℕ) {end : OctetPlace} → end .0 ≤ length lent → end .0 ≡ length (a ++ b ++ c ++ d) → {p q r s : List ℕ} {i j k : ℕ}
       → p ≡ sets lent 0 a → q ≡ sets p i b → i ≡ length a → r ≡ sets q j c → j ≡ length a + length b → s ≡ sets r k d → k ≡ length a + length b + length c
       → left (stored.Span end) s ≡ payloadLent (a ++ b ++ c ++ d) lent
   unfolding first
-  four-stored {end} l e ep eq ei er ej es ek =
+  four-stored lent l n ep eq ei er ej es ek =
       let all = a ++ b ++ c ++ d in
-      let fits : ltb (length lent) (length all) ≡ false = le-ltb (length lent) (length all) (omega (arith, four-size)) in
-      let n : end .0 ≡ length all = omega (arith, four-size) in
+      let fits : ltb (length lent) (length all) ≡ false = le-ltb (length lent) (length all) (omega arith) in
       let one = sets-then lent a b ep eq ei in
       let two = sets-then lent (a ++ b) c one er (omega (arith, length-append a b)) in
       let three = sets-then lent (a ++ b ++ c) d two es (omega (arith, length-append a b, length-append (a ++ b) c)) in
@@ -80,9 +76,9 @@ record LengthsCoded (l : decl.Lengths) (n : ℕ) (f : ℕ → ℕ) : Type 0 wher
 lengths-coded : (n : ℕ) (f : ℕ → ℕ) {l : decl.Lengths} → l ≡ lengthCoding (listed n f) → LengthsCoded l (n - 1) f
 unfolding lengthCoding
 lengths-coded n f {l} e =
-    let low : l .reference ≡ least (listed (n - 1) f) = ap (λ (c : decl.Lengths). c .reference) e ∙ ap least (last-listed n f) in
+    let low : l .reference ≡ least (listed (n - 1) f) = ap (λ (c : decl.Lengths). c .reference) e ∙ ap least (but-last-listed n f) in
     let differences : map (λ (x : ℕ). x - l .reference) (butLast (listed n f)) ≡ listed (n - 1) (λ k. f k - l .reference) =
-    ap (map (λ (x : ℕ). x - l .reference)) (last-listed n f) ∙ map-listed (λ (x : ℕ). x - l .reference) (n - 1) f in
+    ap (map (λ (x : ℕ). x - l .reference)) (but-last-listed n f) ∙ map-listed (λ (x : ℕ). x - l .reference) (n - 1) f in
     record { least-is = low; bits-is = rw (← differences, e) }
 
 module _ {t : Template} {numbers octets : List ℕ} {count : ℕ} (s : Sound numbers octets count) (e : t ≡ codedTemplate (greatest numbers) (groupsIn octets count)) where
@@ -132,15 +128,6 @@ module _ {t : Template} {numbers octets : List ℕ} {count : ℕ} (s : Sound num
       (omega (arith, div-le-self g (t .lengths .increment), greatest-upto 4294967295 (count - 1) differences (λ i l. omega (arith, below octets ((i * 4 + 1) * 32))))))
 
 -- ---- the codes fit
-
-abbrev referencesCoding : Template → Coding
-referencesCoding t = record { field = References; reference = 0; increment = 1; bits = t .width }
-
-abbrev widthsCoding : Template → Coding
-widthsCoding t = record { field = Widths; reference = t .widths .reference; increment = 1; bits = t .widths .bits }
-
-abbrev lengthsCoding : Template → Coding
-lengthsCoding t = record { field = Lengths; reference = t .lengths .reference; increment = t .lengths .increment; bits = t .lengths .bits }
 
 module _ {t : Template} {numbers octets : List ℕ} {count : ℕ} (s : Sound numbers octets count) (e : t ≡ codedTemplate (greatest numbers) (groupsIn octets count)) where
   references-codable : greatest numbers < 2 ^ 32 → Codable (referencesCoding t) octets count
@@ -207,7 +194,7 @@ module _ (t : Template) (numbers octets : List ℕ) (count : ℕ) where
   codes-last =
       let coded : ℕ → ℕ = λ x. (x - t .lengths .reference) / t .lengths .increment in
       let lengths : ℕ → ℕ = λ k. groupAt octets k .length in
-      ap (λ (xs : List ℕ). map coded xs ++ (0 ∷ [])) (ap butLast (map-listed (numberOf Lengths) count (groupAt octets)) ∙ last-listed count lengths)
+      ap (λ (xs : List ℕ). map coded xs ++ (0 ∷ [])) (ap butLast (map-listed (numberOf Lengths) count (groupAt octets)) ∙ but-last-listed count lengths)
       ∙ ap (λ (xs : List ℕ). xs ++ (0 ∷ [])) (map-listed coded (count - 1) lengths ∙ sym (codes-are (lengthsCoding t) octets (count - 1)))
 
   payload-is : payloadIn numbers t (groupsIn octets count) ≡ referencesPart ++ widthsPart ++ lengthsPart ++ valuesPart
@@ -233,6 +220,18 @@ module _ (t : Template) (numbers octets : List ℕ) (count : ℕ) where
   size-values : Sound numbers octets count → length valuesPart ≡ roundedUp (total count (λ k. valueBits (groupAt octets k)))
   size-values s = length-padded (joined count (λ k. valueStringOf numbers (groupAt octets k))) ∙ ap roundedUp (size-all s)
 
+  -- the payload ends where the values do
+  pub payload-length : Sound numbers octets count
+      → length (payloadIn numbers t (groupsIn octets count)) ≡ placesFor t count (total count (λ k. valueBits (groupAt octets k))) .end .0
+  payload-length s =
+      ap length payload-is ∙ four-size referencesPart widthsPart lengthsPart valuesPart
+      ∙ omega (arith, size-references, size-widths, size-lengths (s .some), size-values s)
+
+-- the bits of all values
+pub values-length : {numbers octets : List ℕ} {count : ℕ} → Sound numbers octets count
+    → length (flatMap (valueStringOf numbers) (groupsIn octets count)) ≡ total count (λ k. valueBits (groupAt octets k))
+values-length {numbers} {octets} {count} s = ap length (flat-listed (valueStringOf numbers) count (groupAt octets)) ∙ size-all s
+
 -- ---- the whole
 
 -- what the code knows once it has the places
@@ -243,18 +242,12 @@ pub record Placed (t : Template) (numbers octets : List ℕ) (count : ℕ) (plac
   pub placed : places ≡ placesFor t count (total count (λ k. valueBits (groupAt octets k)))
 
 module _ {t : Template} {numbers octets : List ℕ} {count : ℕ} {places : Places} (x : Placed t numbers octets count places) where
-  abbrev ends : ℕ
-  ends = length (referencesPart t numbers octets count) + length (widthsPart t numbers octets count) + length (lengthsPart t numbers octets count) + length (valuesPart t numbers octets count)
-
-  end-is : places .end .0 ≡ ends
-  end-is =
-      rw (x .placed)
-      (omega (arith, size-references t numbers octets count, size-widths t numbers octets count, size-lengths t numbers octets count (x .sound .some), size-values t numbers octets count (x .sound)))
+  end-is : places .end .0 ≡ length (payloadIn numbers t (groupsIn octets count))
+  end-is = ap (λ (p : Places). p .end .0) (x .placed) ∙ sym (payload-length t numbers octets count (x .sound))
 
   pub payload-refused : {lent : List ℕ} → length lent < places .end .0 → left (stored.Refused Room) lent ≡ payloadLent (payloadIn numbers t (groupsIn octets count)) lent
-  payload-refused {lent} l =
-      rw (payload-is t numbers octets count)
-      (four-refused (referencesPart t numbers octets count) (widthsPart t numbers octets count) (lengthsPart t numbers octets count) (valuesPart t numbers octets count) lent (omega (arith, end-is)))
+  unfolding first
+  payload-refused {lent} l = rw (lt-ltb (length lent) (length (payloadIn numbers t (groupsIn octets count))) (omega (arith, end-is)))
 
   -- what each part asks
   module _ {long : ℕ} (r : places .end .0 ≤ long) where
@@ -282,7 +275,7 @@ module _ {t : Template} {numbers octets : List ℕ} {count : ℕ} {places : Plac
       let second = size-widths t numbers octets count in
       let third = size-lengths t numbers octets count (x .sound .some) in
       rw (payload-is t numbers octets count)
-      (four-stored (referencesPart t numbers octets count) (widthsPart t numbers octets count) (lengthsPart t numbers octets count) (valuesPart t numbers octets count) lent r end-is
+      (four-stored (referencesPart t numbers octets count) (widthsPart t numbers octets count) (lengthsPart t numbers octets count) (valuesPart t numbers octets count) lent r (end-is ∙ ap length (payload-is t numbers octets count))
       (rw (ec₁, x .placed) at e₁)
       (rw ec₂ at e₂) (rw (x .placed) (sym first))
       (rw ec₃ at e₃) (rw (x .placed) (omega (arith, first, second)))

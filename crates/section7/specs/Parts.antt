@@ -29,6 +29,16 @@ codeOf c g = (numberOf (c .field) g - c .reference) / c .increment
 abbrev pub codesOf : Coding → List Group → List ℕ
 codesOf c groups = map (codeOf c) groups
 
+-- "group references at the number width, width codes, length codes"
+abbrev pub referencesCoding : Template → Coding
+referencesCoding t = record { field = References; reference = 0; increment = 1; bits = t .width }
+
+abbrev pub widthsCoding : Template → Coding
+widthsCoding t = record { field = Widths; reference = t .widths .reference; increment = 1; bits = t .widths .bits }
+
+abbrev pub lengthsCoding : Template → Coding
+lengthsCoding t = record { field = Lengths; reference = t .lengths .reference; increment = t .lengths .increment; bits = t .lengths .bits }
+
 -- the first n groups of the octets have codes that fit
 pub record Codable (c : Coding) (octets : List ℕ) (n : ℕ) : Type 0 where
   pub there : n * groupSize ≤ length octets

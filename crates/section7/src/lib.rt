@@ -10,9 +10,8 @@ ghost use Rattle.format.specs.Layout.{numbersIn, groupAt, groupsIn};
 ghost use Rattle.format.specs.Refusals.{left};
 ghost use Rattle.format.specs.Packing.{padded};
 ghost use Rattle.writer.specs.Pen.{Ready, Moved};
-ghost use Rattle.numbers.specs.declared.Field.the-variants.{References, Widths, Lengths};
 ghost use Rattle.numbers.specs.Records.{numberOf, codedTemplate};
-ghost use Rattle.section7.specs.Parts.{codeOf, codesOf, valueStringOf, valueBits, Codable, Valued, Sound, Narrow, placesFor, payloadIn, payloadLent};
+ghost use Rattle.section7.specs.Parts.{codeOf, codesOf, referencesCoding, widthsCoding, lengthsCoding, valueStringOf, valueBits, Codable, Valued, Sound, Narrow, placesFor, payloadIn, payloadLent};
 use format::BitPlace;
 use format::Group;
 use format::OctetPlace;
@@ -167,7 +166,7 @@ fn places_of(template: Template, count: usize, bits: usize) -> Places
 }
 
 fn references_coding(template: Template) -> Coding
-    ensures { λ r. ⌜ r ≡ record { field = References; reference = 0; increment = 1; bits = template .width } ⌝ }
+    ensures { λ r. ⌜ r ≡ referencesCoding template ⌝ }
 {
     Coding {
         field: Field::References,
@@ -178,7 +177,7 @@ fn references_coding(template: Template) -> Coding
 }
 
 fn widths_coding(template: Template) -> Coding
-    ensures { λ r. ⌜ r ≡ record { field = Widths; reference = template .widths .reference; increment = 1; bits = template .widths .bits } ⌝ }
+    ensures { λ r. ⌜ r ≡ widthsCoding template ⌝ }
 {
     Coding {
         field: Field::Widths,
@@ -189,7 +188,7 @@ fn widths_coding(template: Template) -> Coding
 }
 
 fn lengths_coding(template: Template) -> Coding
-    ensures { λ r. ⌜ r ≡ record { field = Lengths; reference = template .lengths .reference; increment = template .lengths .increment; bits = template .lengths .bits } ⌝ }
+    ensures { λ r. ⌜ r ≡ lengthsCoding template ⌝ }
 {
     Coding {
         field: Field::Lengths,

@@ -1,7 +1,8 @@
 -- `coding::lengths_of` meets its contract. All lengths but the last are those of the groups but the last. Assumes nothing.
 use native.Mathlib.Omega.{arith}
 use borrow.Author.Needs.{needs}
-use Rattle.coding.proofs.Firsts.{window-least, window-ordered}
+use Rattle.numbers.proofs.Windows.{window-ordered}
+use Rattle.coding.proofs.Firsts.{window-least}
 use Rattle.coding.proofs.Codings.{one-coded, all-coded}
 use Rattle.coding.proofs.lengths_of.Statement.{statement}
 use Rattle.coding.proofs.lengths_of.Tie as tie

@@ -3,7 +3,8 @@ use native.Mathlib.Omega.{arith}
 use borrow.Author.Needs.{needs}
 use Rattle.format.specs.Packing.{widthCoding}
 use Rattle.numbers.specs.declared.Field.the-variants.{Widths}
-use Rattle.coding.proofs.Firsts.{least-below, window-ordered}
+use Rattle.numbers.proofs.Windows.{window-ordered}
+use Rattle.coding.proofs.Firsts.{least-below}
 use Rattle.coding.proofs.widths_of.Statement.{statement}
 use Rattle.coding.proofs.widths_of.Tie as tie
 

@@ -6,6 +6,7 @@ use native.Mathlib.Omega.{arith}
 use borrow.Author.Needs.{needs}
 use Rattle.format.specs.Layout.{numbersIn}
 use Rattle.numbers.specs.Windows.{windowOf}
+use Rattle.numbers.proofs.Windows.{window-ordered}
 use Rattle.grouping.proofs.Taking.{Open, open-start, wider-ordered, ended, taken, last, closed}
 use Rattle.grouping.proofs.next_group.Statement.{statement}
 use Rattle.grouping.proofs.next_group.Tie as tie
@@ -25,11 +26,14 @@ number-at-requires c κs = omega arith
 window-of-requires : tie.Need-window-of-requires Inv-loop μ-loop
 window-of-requires c κs = search needs
 
+width-requires : tie.Need-width-requires Inv-loop μ-loop
+width-requires c κs = window-ordered _ (c .window-of .ensures)
+
 add-end : tie.Need-add-end Inv-loop μ-loop
 add-end c = omega arith
 
 loop-holds : tie.Need-loop-holds Inv-loop μ-loop
-loop-holds c = open-start _ _ _ _ (c .before .before .before .before .pre .1) (c .window-of .ensures ∙ ap (λ (n : ℕ). windowOf (n ∷ [])) (c .before .number-at .ensures))
+loop-holds c = open-start _ _ _ _ (c .before .before .before .before .before .pre .1) (c .before .window-of .ensures ∙ ap (λ (n : ℕ). windowOf (n ∷ [])) (c .before .before .number-at .ensures)) (c .width .ensures)
 
 number-at-requires-2 : tie.Need-number-at-requires-2 Inv-loop μ-loop
 number-at-requires-2 c κs = omega arith
@@ -37,8 +41,8 @@ number-at-requires-2 c κs = omega arith
 widened-requires : tie.Need-widened-requires Inv-loop μ-loop
 widened-requires c κs = search needs
 
-width-requires : tie.Need-width-requires Inv-loop μ-loop
-width-requires c κs = wider-ordered _ _ _ _ (c .before .before .before .loop .inv) (omega (arith, c .before .before .before .before .before .before .count-of .ensures)) (c .before .number-at2 .ensures) (c .widened .ensures)
+width-requires-2 : tie.Need-width-requires-2 Inv-loop μ-loop
+width-requires-2 c κs = wider-ordered _ _ _ _ (c .before .before .before .loop .inv) (omega (arith, c .before .before .before .before .before .before .before .count-of .ensures)) (c .before .number-at2 .ensures) (c .widened .ensures)
 
 sub-times : tie.Need-sub-times Inv-loop μ-loop
 sub-times c = omega arith
@@ -56,14 +60,14 @@ add-times : tie.Need-add-times Inv-loop μ-loop
 add-times c = omega arith
 
 times-requires-2 : tie.Need-times-requires-2 Inv-loop μ-loop
-times-requires-2 c κs = (omega arith, c .before .width .ensures .1)
+times-requires-2 c κs = (omega arith, c .before .width2 .ensures .1)
 
 look-ahead-requires : tie.Need-look-ahead-requires Inv-loop μ-loop
 look-ahead-requires c κs =
-    let limits = c .before .before .before .before .before .before .before .before .before .before .before .pre .0 in
+    let limits = c .before .before .before .before .before .before .before .before .before .before .before .before .pre .0 in
     let inv = c .before .before .before .before .before .before .loop .inv in (
       record { few = limits .few; ahead = limits .ahead; near = limits .near; added = omega arith },
-      record { there = omega (arith, c .before .before .before .before .before .before .before .before .before .count-of .ensures); flat = inv .flat; within = inv .there; near = inv .near },
+      record { there = omega (arith, c .before .before .before .before .before .before .before .before .before .before .count-of .ensures); flat = inv .flat; within = inv .there; near = inv .near },
       omega arith,
     )
 
@@ -73,7 +77,7 @@ group-of-requires c κs = (omega arith, omega arith, c .before .before .before .
 returns : tie.Need-returns Inv-loop μ-loop
 returns c =
     closed _ _ _ _ (c .before .before .before .before .before .before .before .before .before .loop .inv)
-    (ended _ _ _ _ (c .before .before .before .before .before .before .before .before .before .loop .inv) (omega (arith, c .before .before .before .before .before .before .before .before .before .before .before .before .count-of .ensures)) (c .before .before .before .before .before .before .before .number-at2 .ensures) (c .before .before .before .before .before .before .widened .ensures) (c .before .before .before .before .before .width .ensures) (c .before .before .before .before .times .ensures) refl (c .before .before .before .times2 .ensures) (c .before .before .look-ahead .ensures .0) (c .before .if1 .taken))
+    (ended _ _ _ _ (c .before .before .before .before .before .before .before .before .before .loop .inv) (omega (arith, c .before .before .before .before .before .before .before .before .before .before .before .before .before .count-of .ensures)) (c .before .before .before .before .before .before .before .number-at2 .ensures) (c .before .before .before .before .before .before .widened .ensures) (c .before .before .before .before .before .width2 .ensures) (c .before .before .before .before .times .ensures) refl (c .before .before .before .times2 .ensures) (c .before .before .look-ahead .ensures .0) (c .before .if1 .taken))
     (c .group-of .ensures)
 
 add-end-2 : tie.Need-add-end-2 Inv-loop μ-loop
@@ -84,13 +88,13 @@ loop-less c = omega arith
 
 loop-again : tie.Need-loop-again Inv-loop μ-loop
 loop-again c =
-    taken _ _ _ _ (c .before .before .before .before .before .before .before .before .loop .inv) (omega (arith, c .before .before .before .before .before .before .before .before .before .before .before .count-of .ensures)) (c .before .before .before .before .before .before .number-at2 .ensures) (c .before .before .before .before .before .widened .ensures) (c .before .before .before .before .width .ensures) (c .before .before .before .times .ensures) refl (c .before .before .times2 .ensures) (c .before .look-ahead .ensures .0) (c .if1 .left) (c .before .look-ahead .ensures .1)
+    taken _ _ _ _ (c .before .before .before .before .before .before .before .before .loop .inv) (omega (arith, c .before .before .before .before .before .before .before .before .before .before .before .before .count-of .ensures)) (c .before .before .before .before .before .before .number-at2 .ensures) (c .before .before .before .before .before .widened .ensures) (c .before .before .before .before .width2 .ensures) (c .before .before .before .times .ensures) refl (c .before .before .times2 .ensures) (c .before .look-ahead .ensures .0) (c .if1 .left) (c .before .look-ahead .ensures .1)
 
 group-of-requires-2 : tie.Need-group-of-requires-2 Inv-loop μ-loop
 group-of-requires-2 c κs = (omega arith, omega arith, c .before .loop .inv .narrow)
 
 returns-2 : tie.Need-returns-2 Inv-loop μ-loop
-returns-2 c = closed _ _ _ _ (c .before .before .loop .inv) (last _ _ _ _ (c .before .before .loop .inv) (omega (arith, c .before .before .before .before .before .count-of .ensures))) (c .group-of2 .ensures)
+returns-2 c = closed _ _ _ _ (c .before .before .loop .inv) (last _ _ _ _ (c .before .before .loop .inv) (omega (arith, c .before .before .before .before .before .before .count-of .ensures))) (c .group-of2 .ensures)
 
 pub next-group-spec : {M : Type 1} → statement M
 next-group-spec =
@@ -101,11 +105,12 @@ next-group-spec =
     count-of-requires
     number-at-requires
     window-of-requires
+    width-requires
     add-end
     loop-holds
     number-at-requires-2
     widened-requires
-    width-requires
+    width-requires-2
     sub-times
     times-requires
     add-keep

@@ -1,0 +1,21 @@
+-- The window of some numbers: ordered, as wide as they are, and one number wider. Assumes nothing.
+use mathlib.Core.Path.{_≡_, ap, _∙_}
+use mathlib.Core.List.{List, [], _∷_, _++_}
+use Prim.Native.Nat.{ℕ, _-_, _≤_, _<_}
+use lib.ListN.{length}
+use Rattle.format.specs.Grouping.{bits, widthOf}
+use Rattle.laws.specs.Extremes.{least-greatest, greatest-snoc, least-snoc}
+use Rattle.numbers.specs.Windows.{windowOf, widenedBy}
+use Rattle.numbers.specs.declared.Window.{Window}
+
+module _ (xs : List ℕ) {w : Window} (e : w ≡ windowOf xs) where
+  pub window-ordered : w .least ≤ w .greatest
+  window-ordered = rw e (least-greatest xs)
+
+  pub window-width : {n : ℕ} → n ≡ bits (w .greatest - w .least) → n ≡ widthOf xs
+  unfolding widthOf
+  window-width d = d ∙ ap (λ (v : Window). bits (v .greatest - v .least)) e
+
+  -- a turn of a loop that widens a window
+  pub window-more : (x : ℕ) → 0 < length xs → {v : Window} {y : ℕ} → y ≡ x → v ≡ widenedBy w y → v ≡ windowOf (xs ++ (x ∷ []))
+  window-more x some ey ev = rw (ev, ey, e, greatest-snoc xs x, least-snoc xs x some)
