@@ -4,16 +4,14 @@ use mathlib.Core.List.{List, [], _∷_, _++_, append-assoc}
 use Prim.Native.Nat.{ℕ, suc, _+_, _-_, _*_, _/_, _%_, _^_}
 use native.Mathlib.Omega.{arith}
 use lib.IntN.{ℤ, pos}
-use lib.ListN.{length, getD, length-append}
+use lib.ListN.{length, getD, length-append, List·getD-append}
 use lib.Seq.{sets, getD-at, getD-append-add}
-use Rattle.format.specs.Lists.{listed}
 use Rattle.format.specs.Bits.{numberAt}
 use Rattle.format.specs.Layout.{bigEndian, pointOctets, markOf, twosComplement}
 use Rattle.format.specs.declared.DecodedValue.{DecodedValue}
 use Rattle.format.specs.declared.DecodedValue.the-variants.{Normal}
-use Rattle.laws.specs.Stores.{sets-mid, four-octets}
-use Rattle.laws.specs.Lists.{length-listed}
-use Rattle.laws.specs.Bits.{octet, number-octet}
+use Rattle.laws.specs.Stores.{sets-mid, number-back}
+use Rattle.laws.specs.Lists.{length-listed, getD-listed}
 use Rattle.diff.specs.Restoring.{Lying}
 
 -- ---- what is read
@@ -23,21 +21,16 @@ pub mark-lies : {k : ℕ} {octets : List ℕ} {packed : DecodedValue} {front beh
 mark-lies {k} {octets} {packed} {front} {behind} l e = e ∙ rw (l .there) (getD-at front (markOf packed) _ 0 (k * 9) (l .long))
 
 pub number-lies : {k : ℕ} {octets : List ℕ} {n m : ℕ} {front behind : List ℕ} → Lying k octets (Normal (pos n)) front behind → m ≡ numberAt octets ((k * 9 + 5) * 8) 32 → m ≡ n
-unfolding listed
 number-lies {k} {octets} {n} {m} {front} {behind} l e =
-    let first = at (k * 9 + 5) 5 refl in
-    let second = at (k * 9 + 5 + 1) 6 (omega arith) in
-    let third = at (k * 9 + 5 + 2) 7 (omega arith) in
-    let fourth = at (k * 9 + 5 + 3) 8 (omega arith) in
+    let octet : ℕ → ℕ = λ i. n / 256 ^ (8 - suc i) % 256 in
     e
-    ∙ omega (
-      arith,
-      four-octets n (l .small),
-      octet octets (k * 9 + 5) (omega arith),
-      number-octet octets (k * 9 + 5) 1 (omega arith),
-      number-octet octets (k * 9 + 5) 2 (omega arith),
-      number-octet octets (k * 9 + 5) 3 (omega arith),
-    )
+    ∙ number-back octets (k * 9 + 5) 4 n
+    (λ i h.
+    let there = at (k * 9 + 5 + i) (suc (4 + i)) (omega arith) in
+    let p : 4 - suc i ≡ 8 - suc (4 + i) = omega arith in
+    rw p
+    (there ∙ List·getD-append (bigEndian 8 n) behind 0 (4 + i) (omega (arith, length-listed 8 octet)) ∙ getD-listed 8 octet 0 (4 + i) (omega arith)))
+    (l .small)
   where
     at : (p j : ℕ) → p ≡ k * 9 + j → getD octets p 0 ≡ getD (pointOctets (Normal (pos n)) ++ behind) j 0
     at p j h = rw (h, l .there, ← l .long) (getD-append-add front (pointOctets (Normal (pos n)) ++ behind) j 0)

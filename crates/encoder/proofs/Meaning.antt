@@ -15,7 +15,7 @@ use Rattle.format.specs.declared.Template.{Template}
 use Rattle.laws.specs.Lists.{length-map, getD-listed}
 use Rattle.laws.specs.Bits.{product}
 use Rattle.laws.specs.Strings.{length-string}
-use Rattle.laws.specs.Groups.{allOf, NoneEmpty, length-records, records-map, RecordOf, record-of, Fits, groups-read-back}
+use Rattle.laws.specs.Groups.{allOf, NoneEmpty, few-groups, length-records, records-map, RecordOf, record-of, Fits, groups-read-back}
 use Rattle.numbers.specs.Records.{numberOf}
 use Rattle.numbers.specs.declared.Field.the-variants as field
 use Rattle.section7.specs.Parts.{valueStringOf, Valued, Sound, payloadIn}
@@ -93,15 +93,10 @@ module _ (numbers : List ℕ) (groups : List (List ℕ)) (e : allOf groups ≡ n
     read-back rest = groups-read-back records (groupAt [] 0) (fits (groupAt [] 0)) rest
 
     module _ (octets : List ℕ) (back : groupsIn octets (length records) ≡ records) (some : 0 < length groups) (there : length records * groupSize ≤ length octets) where
-      few : (gs : List (List ℕ)) → NoneEmpty gs → length gs ≤ length (allOf gs)
-      unfolding flatMap
-      few [] k = omega arith
-      few (g ∷ gs) k = omega (arith, k .0, few gs (k .1), length-append g (allOf gs))
-
       pub sound : Sound numbers octets (length records)
       sound = record {
         some = omega (arith, length-records 0 groups);
-        few = omega (arith, length-records 0 groups, few groups h, ap length e);
+        few = omega (arith, length-records 0 groups, few-groups groups h, ap length e);
         there = there;
         short = short;
         each = λ k l.

@@ -9,15 +9,12 @@ use lib.Seq.{sets, length-sets, length-take-le, take-all, take-suc}
 use Rattle.format.specs.Lists.{_over_}
 use Rattle.format.specs.Layout.{bigEndian, inFours, groupNumbers, groupSize}
 use Rattle.format.specs.declared.Group.{Group}
-use Rattle.laws.specs.Lists.{length-listed}
 use Rattle.laws.specs.Stores.{flat-append, length-flat, flat-over}
+use Rattle.laws.specs.Groups.{four-each}
 use Rattle.encoder.specs.Whole.{groupOctets}
 
-pub four-octets-each : (x : ℕ) → length (bigEndian 4 x) ≡ 4
-four-octets-each x = length-listed 4 (λ i. x / 256 ^ (4 - suc i) % 256)
-
 pub group-size : (g : Group) → length (groupOctets g) ≡ groupSize
-group-size g = length-flat (bigEndian 4) 4 four-octets-each (groupNumbers g)
+group-size g = length-flat (bigEndian 4) 4 four-each (groupNumbers g)
 
 -- groups in octets are their numbers in octets
 pub groups-in-fours : (groups : List Group) → flatMap groupOctets groups ≡ inFours (flatMap groupNumbers groups)
@@ -42,7 +39,7 @@ stored-more {numbers} {lent} {now} {next} {k} {x} s l room ex e =
     let t : length (take k numbers) ≡ k = length-take-le k numbers (s .within) in
     let one : take (k + 1) numbers ≡ take k numbers ++ (x ∷ []) = rw (add-one k, ex) (take-suc numbers k 0 l) in
     let f : sets (inFours (take k numbers) over lent) (k * 4) (bigEndian 4 x) ≡ inFours (take (k + 1) numbers) over lent =
-    rw (append-nil, t, ← one) at (flat-over (bigEndian 4) 4 four-octets-each lent (take k numbers) (x ∷ []) (omega arith)) in
+    rw (append-nil, t, ← one) at (flat-over (bigEndian 4) 4 four-each lent (take k numbers) (x ∷ []) (omega arith)) in
     record {
       within = omega arith;
       front = e ∙ ap (λ (o : List ℕ). sets o (k * 4) (bigEndian 4 x)) (s .front) ∙ f;

@@ -1,5 +1,5 @@
 -- Which refusal is the first, from what the code knows at a return. Assumes nothing.
-use Prim.Native.Nat.{ℕ, zero, suc}
+use Prim.Native.Nat.{ℕ, zero, suc, _<_}
 use mathlib.Core.Path.{_≡_, refl, sym, ap, _∙_}
 use mathlib.Core.Bool.{Bool, true, false, not}
 use mathlib.Core.List.{List, [], _∷_, _++_}
@@ -75,6 +75,22 @@ back Repeat = refl
 back Beyond = refl
 back Numbers = refl
 
+-- "The call returns the refusal's number, or 0.": which no refusal has
+pub refusal-some : (r : Refusal) → 0 < refusalNumber r
+refusal-some Splitting = omega arith
+refusal-some Management = omega arith
+refusal-some Order = omega arith
+refusal-some Descriptors = omega arith
+refusal-some Width = omega arith
+refusal-some GroupCount = omega arith
+refusal-some Short = omega arith
+refusal-some GroupSize = omega arith
+refusal-some Points = omega arith
+refusal-some Room = omega arith
+refusal-some Repeat = omega arith
+refusal-some Beyond = omega arith
+refusal-some Numbers = omega arith
+
 -- two refusals of one number are one
 pub same-number : {q r : Refusal} → refusalNumber q ≡ refusalNumber r → q ≡ r
 same-number {q} {r} e = sym (back q) ∙ ap refusalOf e ∙ back r
@@ -90,6 +106,14 @@ Gives n (t gives r ∷ rows) = (t ≡ true → n ≡ refusalNumber r) × (t ≡ 
 abbrev pub Clear : List Row → Type 0
 Clear [] = Unit
 Clear (t gives r ∷ rows) = (t ≡ false) × Clear rows
+
+pub clear-front : (rows more : List Row) → Clear (rows ++ more) → Clear rows
+clear-front [] more h = tt
+clear-front (t gives r ∷ rows) more h = (h .0, clear-front rows more (h .1))
+
+pub clear-join : (rows more : List Row) → Clear rows → Clear more → Clear (rows ++ more)
+clear-join [] more h k = k
+clear-join (t gives r ∷ rows) more h k = (h .0, clear-join rows more (h .1) k)
 
 pub clear-later : (rows more : List Row) → Clear (rows ++ more) → Clear more
 clear-later [] more h = h

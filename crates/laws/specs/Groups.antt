@@ -1,26 +1,33 @@
 -- The groups of a list and their records: nothing is lost, none is empty, and lent octets give them back. Assumes nothing.
 use mathlib.Core.Path.{_≡_, refl, sym, ap, ap₂, _∙_}
 use mathlib.Core.Bool.{Bool, true, false, cond}
-use mathlib.Core.List.{List, [], _∷_, _++_, append-assoc, map, flatMap}
-use Prim.Native.Nat.{ℕ, zero, suc, _+_, _-_, _*_, _^_, _≤_, _<_}
+use mathlib.Core.List.{List, [], _∷_, _++_, append-assoc, append-nil, map, map-append, flatMap}
+use Prim.Native.Nat.{ℕ, zero, suc, _+_, _-_, _*_, _/_, _%_, _^_, _≤_, _<_}
 use native.Mathlib.Omega.{arith}
 use native.Mathlib.Nat.{add-zero}
 use lib.ListN.{length, getD, take, drop, length-append, length-drop}
 use lib.Seq.{slice, take-at, drop-at, drop-drop, ext-getD}
-use Rattle.format.specs.Lists.{listed, least}
+use Rattle.format.specs.Lists.{listed, joined, least}
 use Rattle.format.specs.Bits.{numberAt}
 use Rattle.format.specs.Layout.{bigEndian, inFours, groupNumbers, groupAt, groupsIn}
 use Rattle.format.specs.Grouping.{widthOf, endsBefore, groupsFrom, groupsOf, recordsFrom}
 use Rattle.format.specs.declared.Group.{Group}
-use Rattle.laws.specs.Lists.{take-of-drop, length-listed, getD-listed}
-use Rattle.laws.specs.Bits.{octet, number-octet}
-use Rattle.laws.specs.Stores.{four-octets, length-flat}
+use Rattle.laws.specs.Lists.{take-of-drop, length-listed, getD-listed, joined-first}
+use Rattle.laws.specs.Stores.{length-flat, flat-at, number-back}
 
 -- ---- what the rule makes of a list, whatever the width and the added cost
 
 -- the numbers of all groups, one after another
 abbrev pub allOf : {A : Type 0} → List (List A) → List A
 allOf groups = flatMap (λ group. group) groups
+
+pub joined-map : {A B : Type 0} (f : A → B) (groups : List (List A)) {n : ℕ} → length groups ≡ n → joined n (λ g. map f (getD groups g [])) ≡ map f (allOf groups)
+unfolding joined map flatMap
+joined-map f [] {n} e = rw (← e)
+joined-map {B = B} f (group ∷ groups) {n} e =
+    rw (← e)
+    (joined-first (length groups) (λ g. map f (getD (group ∷ groups) g []))
+    ∙ ap (λ (l : List B). map f group ++ l) (joined-map f groups refl) ∙ sym (map-append f group (allOf groups)))
 
 -- none is empty
 abbrev pub NoneEmpty : {A : Type 0} → List (List A) → Type 0
@@ -65,6 +72,12 @@ module _ {A : Type 0} (width : List A → ℕ) (added k : ℕ) where
   unfolding groupsOf
   groups-none-empty [] = tt
   groups-none-empty (x ∷ xs) = from-none-empty (x ∷ []) xs (omega arith)
+
+-- so there are no more of them than numbers
+pub few-groups : {A : Type 0} (groups : List (List A)) → NoneEmpty groups → length groups ≤ length (allOf groups)
+unfolding flatMap
+few-groups [] h = omega arith
+few-groups (group ∷ groups) h = omega (arith, h .0, few-groups groups (h .1), length-append group (allOf groups))
 
 -- ---- records
 
@@ -113,53 +126,20 @@ module _ (numbers : List ℕ) where
 
 -- ---- what is stored is read back
 
-module _ (rest : List ℕ) where
-  -- octet i of number j
-  four-at : (xs : List ℕ) (j i : ℕ) → j < length xs → i < 4 → getD (inFours xs ++ rest) (j * 4 + i) 0 ≡ getD (bigEndian 4 (getD xs j 0)) i 0
-  unfolding flatMap listed
-  four-at [] j i l m = absurd (omega arith)
-  four-at (x ∷ xs) zero zero l m = refl
-  four-at (x ∷ xs) zero (suc zero) l m = refl
-  four-at (x ∷ xs) zero (suc (suc zero)) l m = refl
-  four-at (x ∷ xs) zero (suc (suc (suc zero))) l m = refl
-  four-at (x ∷ xs) zero (suc (suc (suc (suc i)))) l m = absurd (omega arith)
-  four-at (x ∷ xs) (suc j) i l m =
-      let e : suc j * 4 + i ≡ suc (suc (suc (suc (j * 4 + i)))) = omega arith in
-      rw e (four-at xs j i (omega arith) m)
+pub four-each : (x : ℕ) → length (bigEndian 4 x) ≡ 4
+four-each x = length-listed 4 (λ i. x / 256 ^ (4 - suc i) % 256)
 
-  pub number-read-back : (xs : List ℕ) (j : ℕ) → j < length xs → getD xs j 0 < 2 ^ 32 → numberAt (inFours xs ++ rest) (j * 32) 32 ≡ getD xs j 0
-  unfolding listed
-  number-read-back xs j l h =
-      let octets = inFours xs ++ rest in
-      let n : ℕ = getD xs j 0 in
-      let p : j * 32 ≡ j * 4 * 8 = omega arith in
-      let first = rw add-zero at (four-at xs j 0 l (omega arith)) in
-      let second = four-at xs j 1 l (omega arith) in
-      let third = four-at xs j 2 l (omega arith) in
-      let fourth = four-at xs j 3 l (omega arith) in
-      rw p
-      (omega (
-        arith,
-        four-octets n h,
-        octet octets (j * 4) (omega arith),
-        number-octet octets (j * 4) 1 (omega arith),
-        number-octet octets (j * 4) 2 (omega arith),
-        number-octet octets (j * 4) 3 (omega arith),
-      ))
+pub number-read-back : (rest xs : List ℕ) (j : ℕ) → j < length xs → getD xs j 0 < 2 ^ 32 → numberAt (inFours xs ++ rest) (j * 32) 32 ≡ getD xs j 0
+number-read-back rest xs j l h =
+    let n : ℕ = getD xs j 0 in
+    let octet : ℕ → ℕ = λ i. n / 256 ^ (4 - suc i) % 256 in
+    let p : j * 32 ≡ j * 4 * 8 = omega arith in
+    rw p (number-back (inFours xs ++ rest) (j * 4) 4 n (λ i m. flat-at (bigEndian 4) 4 four-each xs rest 0 j i l m ∙ getD-listed 4 octet 0 i m) h)
 
 -- the numbers of group k among those of all
 numbers-at : (groups : List Group) (d : Group) (k i : ℕ) → k < length groups → i < 4
     → getD (flatMap groupNumbers groups) (k * 4 + i) 0 ≡ getD (groupNumbers (getD groups k d)) i 0
-unfolding flatMap
-numbers-at [] d k i l m = absurd (omega arith)
-numbers-at (g ∷ groups) d zero zero l m = refl
-numbers-at (g ∷ groups) d zero (suc zero) l m = refl
-numbers-at (g ∷ groups) d zero (suc (suc zero)) l m = refl
-numbers-at (g ∷ groups) d zero (suc (suc (suc zero))) l m = refl
-numbers-at (g ∷ groups) d zero (suc (suc (suc (suc i)))) l m = absurd (omega arith)
-numbers-at (g ∷ groups) d (suc k) i l m =
-    let e : suc k * 4 + i ≡ suc (suc (suc (suc (k * 4 + i)))) = omega arith in
-    rw e (numbers-at groups d k i (omega arith) m)
+numbers-at groups d k i l m = rw append-nil at (flat-at groupNumbers 4 (λ g. refl) groups [] d k i l m)
 
 -- a group whose numbers four octets hold
 pub record Fits (g : Group) : Type 0 where

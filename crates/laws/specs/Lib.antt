@@ -6,6 +6,7 @@ pub mod Strings
 pub mod Digits
 pub mod Extremes
 pub mod Codes
+pub mod Divisors
 pub mod Spans
 pub mod Written
 pub mod Fields

@@ -1,7 +1,7 @@
 -- The laws of the words for lists. Assumes nothing.
 use mathlib.Core.Path.{_≡_, refl, sym, ap, ap₂, _∙_}
 use mathlib.Core.Bool.{Bool, true, false, _||_, or-true, false≢true}
-use mathlib.Core.List.{List, [], _∷_, _++_, map}
+use mathlib.Core.List.{List, [], _∷_, _++_, append-assoc, append-nil, map}
 use Prim.Native.Nat.{ℕ, zero, suc, _+_, _-_, _≤_, _<_}
 use native.Mathlib.Nat.{not-suc-le-zero, add-zero, add-suc, zero-add, suc-add, sub-zero, zero-sub}
 use native.Mathlib.Numerals.{add-one}
@@ -56,6 +56,18 @@ unfolding map
 length-map f [] = refl
 length-map f (x ∷ xs) = ap suc (length-map f xs)
 
+module _ {A B : Type 0} (f : A → B) where
+  pub map-at : (xs : List A) (d : A) (e : B) (k : ℕ) → k < length xs → getD (map f xs) k e ≡ f (getD xs k d)
+  unfolding map
+  map-at [] d e k l = absurd (omega arith)
+  map-at (x ∷ xs) d e zero l = refl
+  map-at (x ∷ xs) d e (suc k) l = map-at xs d e k (omega arith)
+
+  pub listed-map : (xs : List A) (d : A) {n : ℕ} → length xs ≡ n → listed n (λ k. f (getD xs k d)) ≡ map f xs
+  unfolding map listed
+  listed-map [] d {n} e = rw (← e)
+  listed-map (x ∷ xs) d {n} e = rw (← e) (ap (λ (l : List B). f x ∷ l) (listed-map xs d refl))
+
 -- ---- over
 
 module _ {A : Type 0} where
@@ -107,6 +119,11 @@ module _ {A : Type 0} (f : A → Bool) where
       either-right true b e = absurd (false≢true (sym e))
       either-right false b e = e
 
+  pub any-not : (xs : List A) (d : A) → ((k : ℕ) → k < length xs → f (getD xs k d) ≡ false) → anyOf f xs ≡ false
+  unfolding anyOf
+  any-not [] d h = refl
+  any-not (x ∷ xs) d h = rw (h 0 (omega arith)) (any-not xs d (λ k l. h (suc k) (omega arith)))
+
   -- a turn of a loop that looks for one: the one passed is none, so that those left decide
   pub any-later : (xs : List A) (d : A) (k : ℕ) → k < length xs → f (getD xs k d) ≡ false → anyOf f (drop k xs) ≡ anyOf f (drop (k + 1) xs)
   unfolding anyOf
@@ -152,3 +169,14 @@ module _ {A : Type 0} where
   unfolding joined total
   length-joined zero f = refl
   length-joined (suc n) f = length-append (joined n f) (f n) ∙ ap (λ (m : ℕ). m + length (f n)) (length-joined n f)
+
+  -- what is joined depends on f at the places below n alone
+  pub joined-ext : (n : ℕ) (f g : ℕ → List A) → ((i : ℕ) → i < n → f i ≡ g i) → joined n f ≡ joined n g
+  unfolding joined
+  joined-ext zero f g h = refl
+  joined-ext (suc n) f g h = ap₂ (λ (x y : List A). x ++ y) (joined-ext n f g (λ i l. h i (omega arith))) (h n (omega arith))
+
+  pub joined-first : (n : ℕ) (f : ℕ → List A) → joined (suc n) f ≡ f 0 ++ joined n (λ i. f (suc i))
+  unfolding joined
+  joined-first zero f = sym (append-nil (f 0))
+  joined-first (suc n) f = ap (λ (l : List A). l ++ f (suc n)) (joined-first n f) ∙ append-assoc (f 0) (joined n (λ i. f (suc i))) (f (suc n))

@@ -1,14 +1,17 @@
 -- A store of some octets at a place, however many they are, and things that lie end to end in lent octets. Assumes nothing.
 use mathlib.Core.Path.{_≡_, refl, sym, ap, _∙_}
 use mathlib.Core.List.{List, [], _∷_, _++_, append-assoc, flatMap}
-use Prim.Native.Nat.{ℕ, zero, suc, _+_, _*_, _/_, _%_, _^_, _≤_, _<_}
-use native.Mathlib.Nat.{add-zero, add-suc, zero-add, suc-add, suc-mul, zero-mul, add-mul, pow-suc, div-div-eq-div-mul, mod-eq-of-lt, div-add-mod', div-one}
+use Prim.Native.Nat.{ℕ, zero, suc, _+_, _-_, _*_, _/_, _%_, _^_, _≤_, _<_}
+use native.Mathlib.Nat.{add-zero, add-suc, zero-add, suc-add, suc-mul, zero-mul, add-mul, sub-zero, sub-self, pow-zero, pow-suc, div-div-eq-div-mul, div-eq-of-lt, div-add-mod', div-one, mod-lt, zero-lt-suc}
+use native.Mathlib.Numerals.{add-one}
 use native.Mathlib.Omega.{arith}
-use lib.ListN.{length, set, length-append}
+use lib.ListN.{length, getD, set, length-append, List·getD-append}
 use lib.Pow.{pow-add}
-use lib.Seq.{sets, sets-eq, take-at, drop-at, drop-append-add}
+use lib.Seq.{sets, sets-eq, take-at, drop-at, drop-append-add, getD-append-add}
 use Rattle.format.specs.Lists.{listed, _over_}
+use Rattle.format.specs.Bits.{numberOf, numberAt}
 use Rattle.laws.specs.Lists.{length-listed, listed-more}
+use Rattle.laws.specs.Bits.{number-octet}
 
 -- ---- `sets`: elements stored one after another from a place on
 
@@ -54,6 +57,17 @@ module _ {A : Type 0} (octets : A → List ℕ) where
   length-flat size h [] = sym (zero-mul size)
   length-flat size h (x ∷ xs) = length-append (octets x) (flatMap octets xs) ∙ omega (arith, h x, length-flat size h xs, suc-mul (length xs) size)
 
+  -- octet i of thing j
+  pub flat-at : (size : ℕ) → ((x : A) → length (octets x) ≡ size) → (xs : List A) (rest : List ℕ) (d : A) (j i : ℕ) → j < length xs → i < size
+      → getD (flatMap octets xs ++ rest) (j * size + i) 0 ≡ getD (octets (getD xs j d)) i 0
+  unfolding flatMap
+  flat-at size h [] rest d j i l m = absurd (omega arith)
+  flat-at size h (x ∷ xs) rest d zero i l m =
+      rw (zero-mul size, zero-add i, append-assoc (octets x) (flatMap octets xs) rest) (List·getD-append (octets x) (flatMap octets xs ++ rest) 0 i (omega (arith, h x)))
+  flat-at size h (x ∷ xs) rest d (suc j) i l m =
+      let e : suc j * size + i ≡ length (octets x) + (j * size + i) = omega (arith, h x, suc-mul j size) in
+      rw (e, append-assoc (octets x) (flatMap octets xs) rest) (getD-append-add (octets x) (flatMap octets xs ++ rest) (j * size + i) 0 ∙ flat-at size h xs rest d j i (omega arith) m)
+
   -- more of them, stored right behind those that are there
   pub flat-over : (size : ℕ) → ((x : A) → length (octets x) ≡ size) → (l : List ℕ) (xs ys : List A) → (length xs + length ys) * size ≤ length l
       → sets (flatMap octets xs over l) (length xs * size) (flatMap octets ys) ≡ flatMap octets (xs ++ ys) over l
@@ -67,10 +81,18 @@ pub octet-power : (n : ℕ) → 2 ^ (n * 8) ≡ 256 ^ n
 octet-power zero = refl
 octet-power (suc n) = rw (suc-mul n 8, pow-add 2 (n * 8) 8, octet-power n) (sym (pow-suc 256 n))
 
--- a number below 2^32 and its four octets
-pub four-octets : (n : ℕ) → n < 2 ^ 32 → ((n / 16777216 % 256 * 256 + n / 65536 % 256) * 256 + n / 256 % 256) * 256 + n / 1 % 256 ≡ n
-four-octets n h =
-    let two : n / 65536 ≡ n / 256 / 256 = sym (div-div-eq-div-mul n 256 256) in
-    let three : n / 16777216 ≡ n / 256 / 256 / 256 = sym (div-div-eq-div-mul n 65536 256) ∙ ap (λ (m : ℕ). m / 256) two in
-    let small : n / 16777216 < 256 = omega arith in
-    rw (mod-eq-of-lt small, three, two, div-add-mod' (n / 256 / 256) 256, div-add-mod' (n / 256) 256, div-one n) (div-add-mod' n 256)
+-- a number that stands in n octets is read back
+module _ (octets : List ℕ) (at n x : ℕ) (there : (i : ℕ) → i < n → getD octets (at + i) 0 ≡ x / 256 ^ (n - suc i) % 256) (small : x < 256 ^ n) where
+  -- its first k octets
+  first-octets : (k : ℕ) → k ≤ n → numberAt octets (at * 8) (k * 8) ≡ x / 256 ^ (n - k)
+  unfolding numberOf
+  first-octets zero l = rw (sub-zero n) (sym (div-eq-of-lt small))
+  first-octets (suc k) l =
+      let y : ℕ = x / 256 ^ (n - suc k) in
+      let e : n - k ≡ suc (n - suc k) = omega arith in
+      let high : x / 256 ^ (n - k) ≡ y / 256 = rw (e, pow-suc 256 (n - suc k)) (sym (div-div-eq-div-mul x (256 ^ (n - suc k)) 256)) in
+      ap (λ (m : ℕ). numberAt octets (at * 8) (m * 8)) (sym (add-one k)) ∙ sym (number-octet octets at k (rw (there k l) (mod-lt y (zero-lt-suc 255))))
+      ∙ rw (there k l, first-octets k (omega arith), high) (div-add-mod' y 256)
+
+  pub number-back : numberAt octets (at * 8) (n * 8) ≡ x
+  number-back = first-octets n (omega arith) ∙ rw (sub-self n, pow-zero, div-one x)

@@ -7,7 +7,8 @@ use native.Mathlib.Omega.{arith}
 use lib.ListN.{length, getD, length-append, List·getD-append, List·getD-eq-default}
 use lib.Seq.{getD-append-add}
 use Rattle.format.specs.Lists.{listed}
-use Rattle.format.specs.Bits.{bitIn, numberOf, bit, stringOf, octetsOf}
+use Rattle.format.specs.Bits.{bitIn, numberOf, bit, stringOf, octetsOf, roundedUp}
+use Rattle.format.specs.Packing.{padded}
 use Rattle.laws.specs.Lists.{length-listed, getD-listed, listed-ext, listed-add}
 use Rattle.laws.specs.Bits.{Bits, bit-lt, number-ext, number-in, number-zero}
 
@@ -29,6 +30,10 @@ bits-string w xs = bits-listed (length xs * w) (bitIn w xs) (bit-lt w xs)
 
 pub length-string : (w : ℕ) (xs : List ℕ) → length (stringOf w xs) ≡ length xs * w
 length-string w xs = length-listed (length xs * w) (bitIn w xs)
+
+-- one that starts on an octet and is padded
+pub length-padded : (string : List ℕ) → length (padded string) ≡ roundedUp (length string)
+length-padded string = length-listed (roundedUp (length string)) (λ j. numberOf (bit string) (j * 8) 8)
 
 -- ---- joined strings
 

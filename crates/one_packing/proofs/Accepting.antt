@@ -11,45 +11,15 @@ use Rattle.format.specs.Refusals.{Row, _gives_, Left, left, first, refusalNumbe
 use Rattle.format.specs.Template.{kindRefusals}
 use Rattle.format.specs.Unpacking.{codesOf, pointsBefore, saidBy, locatedRefusals, countRefusals, roomRefusals, refusals52, unpack52}
 use Rattle.format.specs.declared.DecodedValue.the-variants.{Missing1}
-use Rattle.format.specs.declared.Refusal.{Refusal}
-use Rattle.format.specs.declared.Refusal.the-variants.{Splitting, Management, Order, Descriptors, Width, GroupCount, Short, GroupSize, Points, Room, Repeat, Beyond, Numbers}
 use Rattle.format.specs.declared.Unpacked.{Unpacked}
 use Rattle.format.specs.declared.Unpacked.the-variants as unpacked
-use Rattle.laws.specs.First.{Clear, clears, passed, first-through, tests, not-equal-false}
+use Rattle.laws.specs.First.{clears, clear-front, clear-join, refusal-some, passed, first-through, tests, not-equal-false}
 use Rattle.laws.specs.Points.{length-points, size-points}
 use Rattle.complex.specs.Groups.{Roomy}
 use Rattle.diff.specs.Restoring.{Small}
 use Rattle.decoder.proofs.Packed.{holding}
 use Rattle.cleatmow.specs.Calls.{called}
 use Rattle.one_packing.specs.Claims.{Sent, pointsIn, Accepted}
-
--- ---- rows of two lists, one after the other
-
-clear-front : (rows more : List Row) → Clear (rows ++ more) → Clear rows
-clear-front [] more h = tt
-clear-front (t gives r ∷ rows) more h = (h .0, clear-front rows more (h .1))
-
-pub clear-join : (rows more : List Row) → Clear rows → Clear more → Clear (rows ++ more)
-clear-join [] more h k = k
-clear-join (t gives r ∷ rows) more h k = (h .0, clear-join rows more (h .1) k)
-
--- "The call returns the refusal's number, or 0."
-refusal-some : (r : Refusal) → 0 < refusalNumber r
-refusal-some Splitting = omega arith
-refusal-some Management = omega arith
-refusal-some Order = omega arith
-refusal-some Descriptors = omega arith
-refusal-some Width = omega arith
-refusal-some GroupCount = omega arith
-refusal-some Short = omega arith
-refusal-some GroupSize = omega arith
-refusal-some Points = omega arith
-refusal-some Room = omega arith
-refusal-some Repeat = omega arith
-refusal-some Beyond = omega arith
-refusal-some Numbers = omega arith
-
--- ---- an answer of 0
 
 -- what a call of unpacking that answered 0 says: of the packing, and of the octets that were lent
 pub record Answered (sent : Sent) (declared : ℕ) (lent points : List ℕ) : Type 0 where

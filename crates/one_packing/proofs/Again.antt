@@ -16,12 +16,11 @@ use Rattle.format.specs.Grouping.{numberRefusals}
 use Rattle.format.specs.declared.DecodedValue.{DecodedValue}
 use Rattle.format.specs.declared.DecodedValue.the-variants.{Normal, Missing1, Missing2}
 use Rattle.laws.specs.First.{Clear, tests}
-use Rattle.laws.specs.Lists.{length-map}
+use Rattle.laws.specs.Lists.{length-map, map-at, any-not}
 use Rattle.laws.specs.Points.{size-points}
 use Rattle.diff.specs.Restoring.{Small}
 use Rattle.cleatmow.specs.Calls.{called}
 use Rattle.one_packing.specs.Claims.{Sent, pointsIn, Accepted, Demanded, Lookahead, Canonical, Idempotent, packedBy}
-use Rattle.one_packing.proofs.Mapped.{map-at, any-not}
 use Rattle.one_packing.proofs.Points.{numberPoint}
 use Rattle.one_packing.proofs.RoundTrip.{round-trip}
 use Rattle.one_packing.proofs.Accepting.{Answered, answered}

@@ -19,15 +19,14 @@ use Rattle.format.specs.declared.DecodedValue.{DecodedValue}
 use Rattle.format.specs.declared.DecodedValue.the-variants.{Normal, Missing1, Missing2}
 use Rattle.format.specs.declared.Template.{Template}
 use Rattle.laws.specs.First.{Clear}
-use Rattle.laws.specs.Lists.{length-listed, getD-listed, length-map}
+use Rattle.laws.specs.Lists.{length-listed, getD-listed, length-map, map-at}
+use Rattle.laws.specs.Stores.{flat-at, number-back}
 use Rattle.laws.specs.Groups.{number-read-back}
 use Rattle.laws.specs.Points.{size-point, size-points}
 use Rattle.diff.specs.Restoring.{Small}
 use Rattle.cleatmow.specs.Calls.{called, PackCall, calledPack}
 use Rattle.one_packing.specs.Claims.{Sent, pointsIn, numbersOf, Accepted, Demanded, Lookahead, Limits, Given, givenBy, Roomy, packedBy, again}
 use Rattle.one_packing.specs.Calls.{UnpackMade, PackMade, fourAt, Turned, sentBy, Repacked, Right, Resent, Shown, OfCalls}
-use Rattle.one_packing.proofs.Mapped.{map-at}
-use Rattle.one_packing.proofs.Octets.{flat-at, number-back}
 use Rattle.one_packing.proofs.RoundTrip.{round-trip}
 use Rattle.one_packing.proofs.Accepting.{Answered, answered}
 use Rattle.one_packing.proofs.Again.{held, Taken, taken, canonical, idempotent}

@@ -15,13 +15,13 @@ use Rattle.format.specs.Packing.{butLast, gcdFrom, incrementOf, widthCoding, le
 use Rattle.format.specs.declared.Lengths.{Lengths}
 use Rattle.format.specs.declared.Template.{Template}
 use Rattle.format.specs.declared.Widths.{Widths}
-use Rattle.laws.specs.Lists.{length-map}
+use Rattle.laws.specs.Lists.{length-map, map-at}
+use Rattle.laws.specs.Codes.{length-but-last, but-last-at}
+use Rattle.laws.specs.Divisors.{increment-whole, increment-le}
 use Rattle.laws.specs.Digits.{bits-within, bits-le}
 use Rattle.laws.specs.Extremes.{greatest-upper, least-lower, least-greatest, greatest-more, fits-width}
-use Rattle.laws.specs.Groups.{allOf, NoneEmpty}
+use Rattle.laws.specs.Groups.{allOf}
 use Rattle.section7.proofs.Listing.{divided-le}
-use Rattle.one_packing.proofs.Divisors.{increment-whole, increment-le}
-use Rattle.one_packing.proofs.Mapped.{map-at, length-but-last, but-last-at}
 use Rattle.one_packing.proofs.Parts.{Fit}
 use Rattle.one_packing.proofs.Saying.{Fitting}
 
@@ -101,8 +101,7 @@ module _ (lengths : List ℕ) where
   length-limits h =
       let firsts : UpTo 4194304 (butLast lengths) = λ k l. omega (arith, but-last-at lengths k (omega (arith, length-but-last lengths)), h k (omega (arith, length-but-last lengths))) in
       let many = length-map (λ length. length - least (butLast lengths)) (butLast lengths) in
-      let top = greatest-each 4194304 differences (λ k l. omega (arith, difference-at k (omega (arith, many)), firsts k (omega (arith, many)))) in
-      (
+      let top = greatest-each 4194304 differences (λ k l. omega (arith, difference-at k (omega (arith, many)), firsts k (omega (arith, many)))) in (
         omega (arith, greatest-each 4194304 (butLast lengths) firsts, least-greatest (butLast lengths)),
         increment-le (gcdFrom 0 differences),
         up-to-all 4194304 lengths h (length lengths - 1),
@@ -127,11 +126,6 @@ unfolding flatMap
 length-group [] g l = absurd (omega arith)
 length-group (group ∷ groups) zero l = omega (arith, length-append group (allOf groups))
 length-group (group ∷ groups) (suc g) l = omega (arith, length-group groups g (omega arith), length-append group (allOf groups))
-
-pub few-groups : (groups : List (List ℕ)) → NoneEmpty groups → length groups ≤ length (allOf groups)
-unfolding flatMap
-few-groups [] h = omega arith
-few-groups (group ∷ groups) h = omega (arith, h .0, few-groups groups (h .1), length-append group (allOf groups))
 
 -- ---- a packing of some groups
 

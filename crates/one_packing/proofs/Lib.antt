@@ -1,5 +1,3 @@
-pub mod Divisors
-pub mod Mapped
 pub mod Parts
 pub mod Saying
 pub mod Groups
@@ -9,6 +7,5 @@ pub mod Accepting
 pub mod Packers
 pub mod Again
 pub mod Packing
-pub mod Octets
 pub mod Calls
 pub mod Needed

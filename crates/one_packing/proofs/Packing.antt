@@ -13,11 +13,9 @@ use Rattle.format.specs.Packing.{templateOf, packingOf, summaryNumbers, summary
 use Rattle.format.specs.declared.Group.{Group}
 use Rattle.format.specs.declared.Refusal.the-variants.{Room}
 use Rattle.format.specs.declared.Packed.the-variants as packed
-use Rattle.laws.specs.First.{Clear, clears, tests}
-use Rattle.laws.specs.Groups.{length-records, groups-all, groups-none-empty}
+use Rattle.laws.specs.First.{Clear, clears, clear-join, tests}
+use Rattle.laws.specs.Groups.{length-records, groups-all, groups-none-empty, few-groups}
 use Rattle.one_packing.specs.Claims.{Roomy, Given, givenBy, Packs, ByPacking, packedBy}
-use Rattle.one_packing.proofs.Groups.{few-groups}
-use Rattle.one_packing.proofs.Accepting.{clear-join}
 
 pub by-packing : ByPacking
 unfolding pack packingOf templateOf

@@ -12,11 +12,8 @@ use Rattle.format.specs.Bits.{bitIn, bitAt, numberOf, numberAt, fieldOf, bit, s
 use Rattle.format.specs.Packing.{padded}
 use Rattle.laws.specs.Lists.{length-listed, getD-listed}
 use Rattle.laws.specs.Bits.{Bits, bit-listed, number-ext}
-use Rattle.laws.specs.Strings.{bits-append, bits-string, length-string, number-own}
+use Rattle.laws.specs.Strings.{bits-append, bits-string, length-string, length-padded, number-own}
 use Rattle.laws.specs.Stores.{flat-append}
-
-pub length-padded : (string : List ℕ) → length (padded string) ≡ roundedUp (length string)
-length-padded string = length-listed (roundedUp (length string)) (λ j. numberOf (bit string) (j * 8) 8)
 
 -- numbers that fit a width
 abbrev pub Fit : ℕ → List ℕ → Type 0
@@ -44,14 +41,19 @@ module _ (front rest : List ℕ) where
     where
       string : List ℕ
       string = a ++ stringOf w xs ++ b
+
       octets : List ℕ
       octets = front ++ padded string ++ rest
+
       bits : Bits (bit string)
       bits = bits-append (a ++ stringOf w xs) b (bits-append a (stringOf w xs) ha (bits-string w xs)) hb
+
       long : length string ≡ length a + length xs * w + length b
       long = length-append (a ++ stringOf w xs) b ∙ omega (arith, length-append a (stringOf w xs), length-string w xs)
+
       own : (i : ℕ) → i < length string → bitAt octets (length front * 8 + i) ≡ bit string i
       own i l = bit-between (padded string) i (omega (arith, length-padded string)) ∙ bit-listed bits (roundedUp (length string)) i (omega arith)
+
       at : (k : ℕ) → k < length xs → getD (fieldOf octets (length front * 8 + length a) w (length xs)) k 0 ≡ getD xs k 0
       at k l =
           getD-listed (length xs) (λ i. numberAt octets (length front * 8 + length a + i * w) w) 0 k l

@@ -17,11 +17,10 @@ use Rattle.format.specs.Packing.{lengthCodes, valueString, payloadOf, templateO
 use Rattle.format.specs.declared.DecodedValue.{DecodedValue}
 use Rattle.format.specs.declared.DecodedValue.the-variants.{Normal}
 use Rattle.format.specs.declared.Template.{Template}
-use Rattle.laws.specs.Lists.{length-map, listed-ext}
+use Rattle.laws.specs.Lists.{length-map, map-at, listed-ext, listed-map, joined-ext}
 use Rattle.laws.specs.Extremes.{least-lower, fits-width}
-use Rattle.laws.specs.Groups.{allOf}
+use Rattle.laws.specs.Groups.{allOf, joined-map}
 use Rattle.laws.specs.Points.{length-points}
-use Rattle.one_packing.proofs.Mapped.{map-at, listed-map, joined-ext, joined-map}
 use Rattle.one_packing.proofs.Saying.{Fitting, codes-back, said-back, at-end}
 use Rattle.one_packing.proofs.Groups.{valuesOf, codesFor, fitting}
 

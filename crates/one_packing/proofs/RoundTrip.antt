@@ -20,14 +20,13 @@ use Rattle.format.specs.Packing.{butLast, gcdFrom, incrementOf, widthCoding, le
 use Rattle.format.specs.declared.Template.{Template}
 use Rattle.format.specs.declared.Unpacked.the-variants as unpacked
 use Rattle.laws.specs.First.{Clear, clears, tests}
-use Rattle.laws.specs.Lists.{length-listed, getD-listed, length-map, any-none}
+use Rattle.laws.specs.Lists.{length-listed, getD-listed, length-map, map-at, any-none, any-not}
 use Rattle.laws.specs.Digits.{bits-le}
 use Rattle.laws.specs.Spans.{span-aligned}
-use Rattle.laws.specs.Groups.{allOf, NoneEmpty, groups-all, groups-none-empty}
+use Rattle.laws.specs.Groups.{allOf, NoneEmpty, groups-all, groups-none-empty, few-groups}
 use Rattle.laws.specs.Points.{length-points}
 use Rattle.one_packing.specs.Claims.{Sent, pointsIn, Accepted, Limits, Returned, RoundTrip, packedBy}
-use Rattle.one_packing.proofs.Mapped.{map-at, any-not}
-use Rattle.one_packing.proofs.Groups.{valuesOf, codesFor, width-limits, length-limits, own-width, own-length, greatest-group, greatest-each, length-group, few-groups}
+use Rattle.one_packing.proofs.Groups.{valuesOf, codesFor, width-limits, length-limits, own-width, own-length, greatest-group, greatest-each, length-group}
 use Rattle.one_packing.proofs.Points.{numberPoint, packed-codes, packed-said, packed-end, packed-points}
 
 -- a total of products whose second factors are bounded

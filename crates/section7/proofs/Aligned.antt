@@ -12,7 +12,7 @@ use Rattle.format.specs.Packing.{padded}
 use Rattle.format.specs.declared.OctetPlace.{OctetPlace}
 use Rattle.laws.specs.Lists.{length-listed, getD-listed, listed-ext, listed-add}
 use Rattle.laws.specs.Bits.{bit-lt, number-ext, octet}
-use Rattle.laws.specs.Strings.{bits-listed, octets-front, number-past, length-string}
+use Rattle.laws.specs.Strings.{bits-listed, octets-front, number-past, length-string, length-padded}
 use Rattle.writer.specs.Pen.{Held, Ready, Moved, Finished}
 use Rattle.writer.specs.declared.Pen.{Pen}
 use Rattle.writer.proofs.Pens.{moved-ready}
@@ -42,9 +42,6 @@ fresh place = record { place = place; number = 0; pending = 0 }
 -- a pen on an octet of its own, with room for n bits
 pub fresh-ready : {p : Pen} {place : OctetPlace} → p ≡ fresh place → (n : ℕ) {octets : List ℕ} → place .0 + roundedUp n ≤ length octets → Ready p n octets
 fresh-ready {p} {place} e n l = rw e (record { few = omega arith; small = omega arith; room = omega arith })
-
-pub length-padded : (more : List ℕ) → length (padded more) ≡ roundedUp (length more)
-length-padded more = length-listed (roundedUp (length more)) (λ j. numberOf (bit more) (j * 8) 8)
 
 -- no bits are no octets
 pub none-set : (w : ℕ) (xs octets : List ℕ) (at : ℕ) → w ≡ 0 → octets ≡ sets octets at (padded (stringOf w xs))
