@@ -1,8 +1,8 @@
 -- "the greatest common divisor by repeated remainders" is one, and the increment divides. Assumes nothing.
-use mathlib.Core.Path.{_≡_, refl, sym, ap, _∙_}
+use mathlib.Core.Path.{_≡_, refl}
 use mathlib.Core.Bool.{Bool, true, false, cond}
 use mathlib.Core.List.{List, [], _∷_}
-use Prim.Native.Nat.{ℕ, zero, suc, _+_, _*_, _/_, _%_, _∣_, _≤_, _<_}
+use Prim.Native.Nat.{ℕ, zero, suc, _*_, _/_, _%_, _∣_, _≤_, _<_}
 use native.Mathlib.Nat.{dvd-refl, dvd-zero, one-dvd, dvd-trans, dvd-mod-iff, dvd-of-mod-eq-zero, div-mul-cancel, mod-lt, mod-one, zero-lt-suc}
 use native.Mathlib.Omega.{arith}
 use lib.Dec.{eqb, leb}

@@ -7,7 +7,7 @@ use native.Mathlib.Omega.{arith}
 use native.Mathlib.Nat.{add-zero}
 use lib.ListN.{length, getD, take, drop, length-append, length-drop}
 use lib.Seq.{slice, take-at, drop-at, drop-drop, ext-getD}
-use Rattle.format.specs.Lists.{listed, joined, least}
+use Rattle.format.specs.Lists.{joined, least}
 use Rattle.format.specs.Bits.{numberAt}
 use Rattle.format.specs.Layout.{bigEndian, inFours, groupNumbers, groupAt, groupsIn}
 use Rattle.format.specs.Grouping.{widthOf, endsBefore, groupsFrom, groupsOf, recordsFrom}

@@ -1,20 +1,19 @@
 -- What it says of a packing that unpacking accepts it. Assumes nothing.
-use mathlib.Core.Path.{_≡_, refl, sym, ap, _∙_}
-use mathlib.Core.List.{List, [], _∷_, _++_, flatMap}
-use Prim.Native.Nat.{ℕ, _+_, _*_, _/_, _≤_, _<_}
+use mathlib.Core.Path.{_≡_, refl, ap, _∙_}
+use mathlib.Core.List.{List, _++_, flatMap}
+use Prim.Native.Nat.{ℕ, _/_, _≤_, _<_}
 use native.Mathlib.Omega.{arith}
 use borrow.Author.Tests.{ltb-false}
 use lib.ListN.{length, getD}
 use Rattle.format.specs.Lists.{_over_}
 use Rattle.format.specs.Layout.{pointSize, pointOctets}
-use Rattle.format.specs.Refusals.{Row, _gives_, Left, left, first, refusalNumber, unpackedNumber}
+use Rattle.format.specs.Refusals.{Row, Left, left, refusalNumber, unpackedNumber}
 use Rattle.format.specs.Template.{kindRefusals}
 use Rattle.format.specs.Unpacking.{codesOf, pointsBefore, saidBy, locatedRefusals, countRefusals, roomRefusals, refusals52, unpack52}
 use Rattle.format.specs.declared.DecodedValue.the-variants.{Missing1}
-use Rattle.format.specs.declared.Unpacked.{Unpacked}
 use Rattle.format.specs.declared.Unpacked.the-variants as unpacked
 use Rattle.laws.specs.First.{clears, clear-front, clear-join, refusal-some, passed, first-through, tests, not-equal-false}
-use Rattle.laws.specs.Points.{length-points, size-points}
+use Rattle.laws.specs.Points.{length-points}
 use Rattle.complex.specs.Groups.{Roomy}
 use Rattle.diff.specs.Restoring.{Small}
 use Rattle.decoder.proofs.Packed.{holding}

@@ -2,7 +2,7 @@
 use mathlib.Core.Path.{_≡_, refl, ap, _∙_}
 use mathlib.Core.Bool.{false}
 use mathlib.Core.List.{List, map, flatMap}
-use Prim.Native.Nat.{ℕ, _≤_, _<_}
+use Prim.Native.Nat.{ℕ, _<_}
 use native.Mathlib.Omega.{arith}
 use borrow.Author.Tests.{le-ltb}
 use lib.Dec.{ltb}
@@ -20,7 +20,7 @@ use Rattle.laws.specs.Lists.{length-map, map-at, any-not}
 use Rattle.laws.specs.Points.{size-points}
 use Rattle.diff.specs.Restoring.{Small}
 use Rattle.cleatmow.specs.Calls.{called}
-use Rattle.one_packing.specs.Claims.{Sent, pointsIn, Accepted, Demanded, Lookahead, Canonical, Idempotent, packedBy}
+use Rattle.one_packing.specs.Claims.{Sent, pointsIn, Demanded, Lookahead, Canonical, Idempotent, packedBy}
 use Rattle.one_packing.proofs.Points.{numberPoint}
 use Rattle.one_packing.proofs.RoundTrip.{round-trip}
 use Rattle.one_packing.proofs.Accepting.{Answered, answered}

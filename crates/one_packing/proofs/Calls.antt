@@ -1,6 +1,5 @@
 -- What the calls ensure gives demand 3 of what their callers hold. Assumes nothing.
 use mathlib.Core.Path.{_≡_, refl, sym, ap, ap₂, subst, _∙_}
-use mathlib.Core.Logic.{_↔_}
 use mathlib.Core.List.{List, [], _∷_, _++_, map, flatMap}
 use Prim.Native.Nat.{ℕ, suc, _+_, _-_, _*_, _/_, _%_, _^_, _≤_, _<_}
 use native.Mathlib.Nat.{add-zero, zero-add}
@@ -8,12 +7,11 @@ use native.Mathlib.Omega.{arith}
 use lib.ListN.{length, getD, take, drop}
 use lib.Seq.{ext-getD, take-at}
 use lib.IntN.{pos, negsuc}
-use Rattle.format.specs.Lists.{listed, _over_}
+use Rattle.format.specs.Lists.{_over_}
 use Rattle.format.specs.Bits.{numberAt}
-use Rattle.format.specs.Layout.{inFours, wholeOnes, numbersIn, pointSize, pointOctets, bigEndian, markOf, heldBy, twosComplement}
+use Rattle.format.specs.Layout.{inFours, wholeOnes, numbersIn, pointSize, pointOctets, markOf}
 use Rattle.format.specs.Refusals.{Left, left, unpackedNumber, packedNumber}
-use Rattle.format.specs.Grouping.{widthOf, groupsOf, numberRefusals}
-use Rattle.format.specs.Unpacking.{unpack52}
+use Rattle.format.specs.Grouping.{numberRefusals}
 use Rattle.format.specs.Packing.{templateOf, packingOf, templateNumbers, pack}
 use Rattle.format.specs.declared.DecodedValue.{DecodedValue}
 use Rattle.format.specs.declared.DecodedValue.the-variants.{Normal, Missing1, Missing2}
@@ -25,11 +23,11 @@ use Rattle.laws.specs.Groups.{number-read-back}
 use Rattle.laws.specs.Points.{size-point, size-points}
 use Rattle.diff.specs.Restoring.{Small}
 use Rattle.cleatmow.specs.Calls.{called, PackCall, calledPack}
-use Rattle.one_packing.specs.Claims.{Sent, pointsIn, numbersOf, Accepted, Demanded, Lookahead, Limits, Given, givenBy, Roomy, packedBy, again}
-use Rattle.one_packing.specs.Calls.{UnpackMade, PackMade, fourAt, Turned, sentBy, Repacked, Right, Resent, Shown, OfCalls}
+use Rattle.one_packing.specs.Claims.{Sent, pointsIn, numbersOf, Accepted, Demanded, Lookahead, Given, Roomy, packedBy, again}
+use Rattle.one_packing.specs.Calls.{UnpackMade, PackMade, fourAt, Turned, sentBy, Repacked, Resent, OfCalls}
 use Rattle.one_packing.proofs.RoundTrip.{round-trip}
 use Rattle.one_packing.proofs.Accepting.{Answered, answered}
-use Rattle.one_packing.proofs.Again.{held, Taken, taken, canonical, idempotent}
+use Rattle.one_packing.proofs.Again.{held, taken, canonical, idempotent}
 use Rattle.one_packing.proofs.Packing.{by-packing}
 
 -- ---- points in lent octets

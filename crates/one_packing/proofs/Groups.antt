@@ -1,5 +1,5 @@
 -- The groups of a packing come back from its template numbers and codes: widths, lengths, references, values. Assumes nothing.
-use mathlib.Core.Path.{_≡_, refl, sym, ap, ap₂, _∙_}
+use mathlib.Core.Path.{_≡_, refl, sym, ap, _∙_}
 use mathlib.Core.Bool.{Bool, true, false, cond}
 use mathlib.Core.List.{List, [], _∷_, _++_, map, flatMap}
 use Prim.Native.Nat.{ℕ, zero, suc, _+_, _-_, _*_, _/_, _^_, _≤_, _<_}
@@ -14,7 +14,6 @@ use Rattle.format.specs.Unpacking.{Codes, groupWidth, groupLength}
 use Rattle.format.specs.Packing.{butLast, gcdFrom, incrementOf, widthCoding, lengthCoding, templateOf}
 use Rattle.format.specs.declared.Lengths.{Lengths}
 use Rattle.format.specs.declared.Template.{Template}
-use Rattle.format.specs.declared.Widths.{Widths}
 use Rattle.laws.specs.Lists.{length-map, map-at}
 use Rattle.laws.specs.Codes.{length-but-last, but-last-at}
 use Rattle.laws.specs.Divisors.{increment-whole, increment-le}
@@ -22,7 +21,6 @@ use Rattle.laws.specs.Digits.{bits-within, bits-le}
 use Rattle.laws.specs.Extremes.{greatest-upper, least-lower, least-greatest, greatest-more, fits-width}
 use Rattle.laws.specs.Groups.{allOf}
 use Rattle.section7.proofs.Listing.{divided-le}
-use Rattle.one_packing.proofs.Parts.{Fit}
 use Rattle.one_packing.proofs.Saying.{Fitting}
 
 -- numbers up to b

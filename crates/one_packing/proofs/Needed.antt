@@ -1,6 +1,6 @@
 -- Each premise of demand 3 is needed: the smallest maps that show it. Assumes nothing.
 use mathlib.Core.Path.{_≡_, refl, ap}
-use mathlib.Core.List.{List, [], _∷_, flatMap}
+use mathlib.Core.List.{List, [], _∷_}
 use Prim.Native.Nat.{ℕ}
 use native.Mathlib.Omega.{arith}
 use lib.ListN.{getD}
@@ -10,9 +10,9 @@ use Rattle.format.specs.Bits.{bitIn, numberOf, spanOf}
 use Rattle.format.specs.Layout.{markOf}
 use Rattle.format.specs.Seen.{template}
 use Rattle.format.specs.Template.{widthsAt, lengthsAt, valuesAt}
-use Rattle.format.specs.Unpacking.{codesOf, referenceOf, saidBy, groupWidth, groupLength, pointsBefore, bitsBefore, decoded, pointOf, pointAt, pointsUpTo}
+use Rattle.format.specs.Unpacking.{codesOf, referenceOf, saidBy, groupWidth, groupLength, bitsBefore, decoded, pointOf, pointAt, pointsUpTo}
 use Rattle.format.specs.Grouping.{digitsIn, bits, widthOf, endsBefore, groupsFrom, groupsOf}
-use Rattle.format.specs.Packing.{widthCoding, gcdIn, gcd, gcdFrom, divisorUpTo, incrementOf, butLast, lengthCoding, templateOf, packingOf, pack}
+use Rattle.format.specs.Packing.{templateOf, packingOf, pack}
 use Rattle.format.specs.declared.DecodedValue.{DecodedValue}
 use Rattle.format.specs.declared.DecodedValue.the-variants.{Missing1}
 use Rattle.format.specs.declared.Packed.the-variants as packed

@@ -1,21 +1,22 @@
 -- Packing accepts what document 01 lets it, where there is room, and gives the packing that the claims speak of. Assumes nothing.
 use mathlib.Core.Path.{_≡_, refl, sym, ap, _∙_}
 use mathlib.Core.List.{List, [], _∷_, _++_, flatMap}
-use Prim.Native.Nat.{ℕ, _*_, _/_, _≤_, _<_}
+use Prim.Native.Nat.{ℕ, _≤_}
 use native.Mathlib.Omega.{arith}
 use lib.Dec.{ltb}
 use lib.ListN.{length, take}
 use Rattle.format.specs.Lists.{_over_}
 use Rattle.format.specs.Layout.{inFours, wholeOnes, groupSize, groupNumbers}
-use Rattle.format.specs.Refusals.{_gives_, first}
-use Rattle.format.specs.Grouping.{widthOf, groups01, groupsOf, recordsFrom, numberRefusals}
+use Rattle.format.specs.Refusals.{_gives_, refusalNumber, packedNumber}
+use Rattle.format.specs.Grouping.{widthOf, groups01, numberRefusals}
 use Rattle.format.specs.Packing.{templateOf, packingOf, summaryNumbers, summarySize, Parcelled, pack}
 use Rattle.format.specs.declared.Group.{Group}
+use Rattle.format.specs.declared.Refusal.{Refusal}
 use Rattle.format.specs.declared.Refusal.the-variants.{Room}
 use Rattle.format.specs.declared.Packed.the-variants as packed
-use Rattle.laws.specs.First.{Clear, clears, clear-join, tests}
+use Rattle.laws.specs.First.{clears, clear-front, clear-join, first-through, passed, refusal-some, tests}
 use Rattle.laws.specs.Groups.{length-records, groups-all, groups-none-empty, few-groups}
-use Rattle.one_packing.specs.Claims.{Roomy, Given, givenBy, Packs, ByPacking, packedBy}
+use Rattle.one_packing.specs.Claims.{givenBy, ByPacking, PackableAlone}
 
 pub by-packing : ByPacking
 unfolding pack packingOf templateOf
@@ -34,3 +35,11 @@ by-packing k numbers clear groups payload summary room =
     (clear-join (numberRefusals k numbers) (ltb (length summary) summarySize gives Room ∷ []) clear (omega (arith, tests, room .for-summary))) in
     let count : length (p .records) ≡ p .template .groups = many in
     ap givenBy (sym packed-so) ∙ rw count
+
+pub packable-alone : PackableAlone
+unfolding pack
+packable-alone k numbers groups payload summary e =
+    let room = ltb (length summary) summarySize gives Room ∷ [] in
+    let refused : Refusal → Parcelled = λ r. record { answer = packed.Refused r; groups = groups; payload = payload; summary = summary } in
+    let through = first-through refused refusalNumber (λ p. packedNumber (p .answer)) (λ r. refl) (numberRefusals k numbers ++ room) _ in
+    clear-front (numberRefusals k numbers) room (passed refusalNumber (numberRefusals k numbers ++ room) _ (sym e ∙ through) (λ r d. absurd (omega (arith, refusal-some r))) .0)

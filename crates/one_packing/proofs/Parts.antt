@@ -1,14 +1,13 @@
 -- What stands in a part of a payload is read back, whatever stands before the part and after it. Assumes nothing.
-use mathlib.Core.Path.{_≡_, refl, sym, ap, ap₂, _∙_}
-use mathlib.Core.List.{List, [], _∷_, _++_, append-assoc, append-nil, map, flatMap}
-use Prim.Native.Nat.{ℕ, zero, suc, _+_, _-_, _*_, _/_, _%_, _^_, _≤_, _<_}
+use mathlib.Core.Path.{_≡_, refl, ap, ap₂, _∙_}
+use mathlib.Core.List.{List, [], _∷_, _++_, append-assoc, append-nil, flatMap}
+use Prim.Native.Nat.{ℕ, zero, suc, _+_, _*_, _/_, _^_, _≤_, _<_}
 use native.Mathlib.Nat.{add-zero, mod-eq-of-lt, zero-lt-suc, mul-add-div-right, mul-add-mod-self-right, mul-le-mul-right, suc-mul}
-use native.Mathlib.Numerals.{add-one}
 use native.Mathlib.Omega.{arith}
 use lib.ListN.{length, getD, take, drop, length-append, List·getD-append}
 use lib.Seq.{ext-getD, getD-append-add, take-suc}
-use Rattle.format.specs.Lists.{listed, total}
-use Rattle.format.specs.Bits.{bitIn, bitAt, numberOf, numberAt, fieldOf, bit, stringOf, roundedUp}
+use Rattle.format.specs.Lists.{total}
+use Rattle.format.specs.Bits.{bitIn, bitAt, numberAt, fieldOf, bit, stringOf, roundedUp}
 use Rattle.format.specs.Packing.{padded}
 use Rattle.laws.specs.Lists.{length-listed, getD-listed}
 use Rattle.laws.specs.Bits.{Bits, bit-listed, number-ext}

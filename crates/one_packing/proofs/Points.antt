@@ -1,18 +1,18 @@
 -- What a packing of some groups says: its points are the groups' numbers. Assumes nothing.
-use mathlib.Core.Path.{_≡_, refl, sym, ap, ap₂, _∙_}
+use mathlib.Core.Path.{_≡_, refl, ap, _∙_}
 use mathlib.Core.Bool.{Bool, true, false, cond}
-use mathlib.Core.List.{List, [], _∷_, _++_, append-nil, map, flatMap}
-use Prim.Native.Nat.{ℕ, zero, suc, _+_, _-_, _*_, _/_, _^_, _≤_, _<_}
+use mathlib.Core.List.{List, [], _++_, map}
+use Prim.Native.Nat.{ℕ, _+_, _-_, _<_}
 use native.Mathlib.Omega.{arith}
 use borrow.Author.Tests.{eqb-true}
 use lib.Dec.{eqb}
-use lib.ListN.{length, getD, length-append}
+use lib.ListN.{length, getD}
 use lib.IntN.{pos}
-use Rattle.format.specs.Lists.{listed, total, joined, least}
+use Rattle.format.specs.Lists.{listed, least}
 use Rattle.format.specs.Bits.{roundedUp}
 use Rattle.format.specs.Grouping.{widthOf}
 use Rattle.format.specs.Template.{valuesAt}
-use Rattle.format.specs.Unpacking.{codesOf, referenceOf, groupWidth, groupLength, pointsBefore, bitsBefore, Said, saidBy, decoded, pointOf, pointAt, pointsUpTo}
+use Rattle.format.specs.Unpacking.{codesOf, referenceOf, groupLength, bitsBefore, Said, saidBy, decoded, pointOf, pointAt, pointsUpTo}
 use Rattle.format.specs.Packing.{lengthCodes, valueString, payloadOf, templateOf}
 use Rattle.format.specs.declared.DecodedValue.{DecodedValue}
 use Rattle.format.specs.declared.DecodedValue.the-variants.{Normal}
@@ -20,7 +20,6 @@ use Rattle.format.specs.declared.Template.{Template}
 use Rattle.laws.specs.Lists.{length-map, map-at, listed-ext, listed-map, joined-ext}
 use Rattle.laws.specs.Extremes.{least-lower, fits-width}
 use Rattle.laws.specs.Groups.{allOf, joined-map}
-use Rattle.laws.specs.Points.{length-points}
 use Rattle.one_packing.proofs.Saying.{Fitting, codes-back, said-back, at-end}
 use Rattle.one_packing.proofs.Groups.{valuesOf, codesFor, fitting}
 

@@ -1,31 +1,30 @@
 -- Round trip: a packing of some groups is accepted and unpacks to their numbers, by whatever rule the groups were made. Assumes
 -- nothing.
-use mathlib.Core.Path.{_≡_, refl, sym, ap, ap₂, subst, _∙_}
-use mathlib.Core.Bool.{Bool, true, false, _||_, _&&_, not, and-false}
-use mathlib.Core.List.{List, [], _∷_, _++_, append-nil, map, flatMap}
-use Prim.Native.Nat.{ℕ, zero, suc, _+_, _-_, _*_, _/_, _^_, _≤_, _<_}
-use native.Mathlib.Nat.{div-le-self, mul-le-mul-left, mul-le-mul-right, add-mul}
+use mathlib.Core.Path.{_≡_, refl, sym, ap, _∙_}
+use mathlib.Core.Bool.{false, and-false}
+use mathlib.Core.List.{List, [], _∷_, append-nil, map, flatMap}
+use Prim.Native.Nat.{ℕ, zero, suc, _+_, _-_, _*_, _≤_, _<_}
+use native.Mathlib.Nat.{mul-le-mul-left, add-mul}
 use native.Mathlib.Omega.{arith}
 use borrow.Author.Tests.{le-ltb, ltb-false}
-use lib.Dec.{eqb, ltb}
+use lib.Dec.{ltb}
 use lib.ListN.{length, getD}
-use Rattle.format.specs.Lists.{listed, total, anyOf, greatest, least, _over_}
+use Rattle.format.specs.Lists.{listed, total, anyOf, greatest, least}
 use Rattle.format.specs.Bits.{roundedUp, spanOf}
-use Rattle.format.specs.Layout.{pointSize, pointOctets}
 use Rattle.format.specs.Refusals.{left}
-use Rattle.format.specs.Template.{widthsAt, lengthsAt, valuesAt, kindRefusals, fieldRefusals}
-use Rattle.format.specs.Grouping.{bits, widthOf, groupsOf, numberRefusals}
-use Rattle.format.specs.Unpacking.{Codes, codesOf, Said, groupWidth, groupLength, pointsBefore, bitsBefore, wrongGroup, saidBy, pointsUpTo, placesOf, refusals52, unpack52}
-use Rattle.format.specs.Packing.{butLast, gcdFrom, incrementOf, widthCoding, lengthCoding, templateOf, payloadOf, packingOf}
+use Rattle.format.specs.Template.{widthsAt, lengthsAt, valuesAt}
+use Rattle.format.specs.Grouping.{bits, widthOf, groupsOf}
+use Rattle.format.specs.Unpacking.{codesOf, Said, groupWidth, groupLength, pointsBefore, bitsBefore, wrongGroup, placesOf, refusals52, unpack52}
+use Rattle.format.specs.Packing.{templateOf, payloadOf, packingOf}
 use Rattle.format.specs.declared.Template.{Template}
 use Rattle.format.specs.declared.Unpacked.the-variants as unpacked
-use Rattle.laws.specs.First.{Clear, clears, tests}
+use Rattle.laws.specs.First.{clears, tests}
 use Rattle.laws.specs.Lists.{length-listed, getD-listed, length-map, map-at, any-none, any-not}
 use Rattle.laws.specs.Digits.{bits-le}
 use Rattle.laws.specs.Spans.{span-aligned}
 use Rattle.laws.specs.Groups.{allOf, NoneEmpty, groups-all, groups-none-empty, few-groups}
 use Rattle.laws.specs.Points.{length-points}
-use Rattle.one_packing.specs.Claims.{Sent, pointsIn, Accepted, Limits, Returned, RoundTrip, packedBy}
+use Rattle.one_packing.specs.Claims.{Sent, pointsIn, Accepted, Limits, RoundTrip}
 use Rattle.one_packing.proofs.Groups.{valuesOf, codesFor, width-limits, length-limits, own-width, own-length, greatest-group, greatest-each, length-group}
 use Rattle.one_packing.proofs.Points.{numberPoint, packed-codes, packed-said, packed-end, packed-points}
 
@@ -126,7 +125,7 @@ module _ (numbers : List ℕ) (groups : List (List ℕ)) (e : allOf groups ≡ n
 
   pub limits : Limits sent
   limits = record {
-    width = width-limited;
+    width = omega (arith, width-limited);
     some-groups = omega (arith, count-is, some-there);
     few-groups = omega (arith, count-is, few-there);
     width-reference = omega (arith, widths-limited .0);

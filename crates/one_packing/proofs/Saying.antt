@@ -1,15 +1,14 @@
 -- A payload of some codes and values says them: what packing writes, unpacking takes from it. Assumes nothing.
-use mathlib.Core.Path.{_≡_, refl, sym, ap, ap₂, _∙_}
-use mathlib.Core.List.{List, [], _∷_, _++_, append-assoc, append-nil, map, flatMap}
-use Prim.Native.Nat.{ℕ, zero, suc, _+_, _-_, _*_, _/_, _^_, _≤_, _<_}
-use native.Mathlib.Nat.{add-zero}
+use mathlib.Core.Path.{_≡_, sym, ap, ap₂, _∙_}
+use mathlib.Core.List.{List, [], _∷_, _++_, append-assoc, map, flatMap}
+use Prim.Native.Nat.{ℕ, _+_, _-_, _*_, _≤_, _<_}
 use native.Mathlib.Omega.{arith}
-use lib.ListN.{length, getD, take, length-append}
-use lib.Seq.{ext-getD, take-all}
-use Rattle.format.specs.Lists.{listed, total}
+use lib.ListN.{length, getD, length-append}
+use lib.Seq.{take-all}
+use Rattle.format.specs.Lists.{total}
 use Rattle.format.specs.Bits.{fieldOf, stringOf, roundedUp, spanOf}
 use Rattle.format.specs.Template.{widthsAt, lengthsAt, valuesAt}
-use Rattle.format.specs.Unpacking.{Codes, codesOf, groupWidth, groupLength, bitsBefore, Said, saidBy}
+use Rattle.format.specs.Unpacking.{Codes, codesOf, groupWidth, groupLength, bitsBefore, saidBy}
 use Rattle.format.specs.Packing.{padded}
 use Rattle.format.specs.declared.Template.{Template}
 use Rattle.laws.specs.Lists.{listed-ext, listed-map, total-ext}

@@ -2,12 +2,12 @@
 use mathlib.Core.Path.{_≡_}
 use mathlib.Core.Logic.{_↔_}
 use mathlib.Core.List.{List, [], _∷_, _++_, map, flatMap}
-use Prim.Native.Nat.{ℕ, _+_, _*_, _≤_, _<_}
+use Prim.Native.Nat.{ℕ, _*_, _≤_, _<_}
 use lib.ListN.{length, getD}
 use lib.IntN.{pos}
 use Rattle.format.specs.Lists.{_over_}
 use Rattle.format.specs.Layout.{inFours, pointSize, pointOctets, markOf, heldBy, twosComplement, groupSize}
-use Rattle.format.specs.Refusals.{left}
+use Rattle.format.specs.Refusals.{left, packedNumber}
 use Rattle.format.specs.Unpacking.{codesOf, groupWidth, groupLength, saidBy, pointsUpTo, unpack52}
 use Rattle.format.specs.Grouping.{widthOf, groupsOf, numberRefusals}
 use Rattle.format.specs.Packing.{packingOf, templateNumbers, summarySize, Parcelled, pack}
@@ -62,6 +62,10 @@ packedBy added k numbers =
 abbrev pub again : ℕ → ℕ → Sent → Sent
 again added k sent = packedBy added k (numbersOf sent)
 
+-- a list that packing accepts with a lookahead: no row of 13 refuses it
+abbrev pub Packable : ℕ → List ℕ → Type 0
+Packable k numbers = Clear (numberRefusals k numbers)
+
 -- lent buffers with room for a packing of some numbers: each group has a number at least
 pub record Roomy (numbers : List ℕ) (sent : Sent) (groups payload summary : List ℕ) : Type 0 where
   pub for-groups : length numbers * groupSize ≤ length groups
@@ -113,7 +117,7 @@ pub record Returned (numbers : List ℕ) (sent : Sent) : Type 0 where
   pub limits : Limits sent
 
 abbrev pub RoundTrip : ℕ → Type 0
-RoundTrip added = (k : ℕ) (numbers : List ℕ) → Clear (numberRefusals k numbers) → Returned numbers (packedBy added k numbers)
+RoundTrip added = (k : ℕ) (numbers : List ℕ) → Packable k numbers → Returned numbers (packedBy added k numbers)
 
 -- Canonical: "equal parameters and octets exactly when they held the same numbers"
 abbrev pub Canonical : ℕ → Type 0
@@ -127,6 +131,11 @@ Idempotent added =
     (k : ℕ) → Lookahead k → (a : Sent) → Demanded a
     → (pointsIn (again added k a) ≡ pointsIn a) × (again added k (again added k a) ≡ again added k a)
 
--- All three hold of what packing gives by document 01's rule.
+-- All three hold of what packing gives by document 01's rule: of a list that it accepts it gives this packing, and a list of
+-- which it gives any is one that it accepts.
 abbrev pub ByPacking : Type 0
-ByPacking = (k : ℕ) (numbers : List ℕ) → Clear (numberRefusals k numbers) → Packs k numbers (packedBy 0 k numbers)
+ByPacking = (k : ℕ) (numbers : List ℕ) → Packable k numbers → Packs k numbers (packedBy 0 k numbers)
+
+abbrev pub PackableAlone : Type 0
+PackableAlone =
+    (k : ℕ) (numbers groups payload summary : List ℕ) → packedNumber (pack k numbers groups payload summary .answer) ≡ 0 → Packable k numbers
