@@ -7,5 +7,6 @@ pub mod Accepting
 pub mod Packers
 pub mod Again
 pub mod Packing
+pub mod Demand
 pub mod Calls
 pub mod Needed

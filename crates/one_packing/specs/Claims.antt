@@ -139,3 +139,7 @@ ByPacking = (k : ℕ) (numbers : List ℕ) → Packable k numbers → Packs k nu
 abbrev pub PackableAlone : Type 0
 PackableAlone =
     (k : ℕ) (numbers groups payload summary : List ℕ) → packedNumber (pack k numbers groups payload summary .answer) ≡ 0 → Packable k numbers
+
+-- Demand 3, whole
+abbrev pub DemandThree : Type 0
+DemandThree = RoundTrip 0 × Canonical 0 × Idempotent 0 × ByPacking × PackableAlone
