@@ -3,7 +3,7 @@ use mathlib.Core.Path.{_≡_, refl}
 use mathlib.Core.Bool.{Bool, true, false, cond}
 use mathlib.Core.List.{List, [], _∷_}
 use Prim.Native.Nat.{ℕ, zero, suc, _*_, _/_, _%_, _∣_, _≤_, _<_}
-use native.Mathlib.Nat.{dvd-refl, dvd-zero, one-dvd, dvd-trans, dvd-mod-iff, dvd-of-mod-eq-zero, div-mul-cancel, mod-lt, mod-one, zero-lt-suc}
+use native.Mathlib.Nat.{le-trans, le-div-iff-mul-le, div-mul-le-self, div-zero, dvd-refl, dvd-zero, one-dvd, dvd-trans, dvd-mod-iff, dvd-of-mod-eq-zero, div-mul-cancel, mod-lt, mod-one, zero-lt-suc}
 use native.Mathlib.Omega.{arith}
 use lib.Dec.{eqb, leb}
 use lib.ListN.{length, getD}
@@ -32,7 +32,7 @@ gcd-in-greatest zero a b d ha hb = ha
 gcd-in-greatest (suc n) a zero d ha hb = ha
 gcd-in-greatest (suc n) a (suc b) d ha hb = gcd-in-greatest n (suc b) (a % suc b) d hb (dvd-mod-iff _ hb .1 ha)
 
-pub gcd-greatest : (a b d : ℕ) → d ∣ a → d ∣ b → d ∣ gcd a b
+gcd-greatest : (a b d : ℕ) → d ∣ a → d ∣ b → d ∣ gcd a b
 unfolding gcd
 gcd-greatest a b d ha hb = gcd-in-greatest b a b d ha hb
 
@@ -53,6 +53,11 @@ gcd-from-divides a (b ∷ numbers) = both (gcdFrom (gcd a b) numbers) (gcd-from-
         each : DividesAll d (b ∷ numbers)
         each zero l = dvd-trans _ (h .0) (gcd-divides a b .1)
         each (suc k) l = h .1 k (omega arith)
+
+pub gcd-from-greatest : (a : ℕ) (numbers : List ℕ) (d : ℕ) → d ∣ a → DividesAll d numbers → d ∣ gcdFrom a numbers
+unfolding gcdFrom
+gcd-from-greatest a [] d ha h = ha
+gcd-from-greatest a (b ∷ numbers) d ha h = gcd-from-greatest (gcd a b) numbers d (gcd-greatest a b d ha (h 0 (omega arith))) (λ k l. h (suc k) (omega arith))
 
 -- ---- the increment
 
@@ -96,3 +101,8 @@ increment-le step = by-test (leb step 255) refl
 pub increment-whole : (numbers : List ℕ) (k : ℕ) → k < length numbers
     → getD numbers k 0 / incrementOf (gcdFrom 0 numbers) * incrementOf (gcdFrom 0 numbers) ≡ getD numbers k 0
 increment-whole numbers k l = div-mul-cancel _ (dvd-trans _ (increment-divides (gcdFrom 0 numbers)) (gcd-from-divides 0 numbers .1 k l))
+
+-- a quotient is no less where the number is no less
+pub divided-le : (x y d : ℕ) → x ≤ y → x / d ≤ y / d
+divided-le x y zero h = omega (arith, div-zero x, div-zero y)
+divided-le x y (suc d) h = le-div-iff-mul-le {k = suc d} (omega arith) .1 (le-trans (div-mul-le-self x (suc d)) h)

@@ -33,6 +33,15 @@ least-greatest [] = omega arith
 least-greatest (x ∷ []) = omega arith
 least-greatest (x ∷ y ∷ ys) = omega arith
 
+-- numbers up to b
+abbrev pub UpTo : ℕ → List ℕ → Type 0
+UpTo b xs = (k : ℕ) → k < length xs → getD xs k 0 ≤ b
+
+pub greatest-each : (b : ℕ) (xs : List ℕ) → UpTo b xs → greatest xs ≤ b
+unfolding greatest
+greatest-each b [] h = omega arith
+greatest-each b (x ∷ xs) h = omega (arith, h 0 (omega arith), greatest-each b xs (λ k l. h (suc k) (omega arith)))
+
 -- ---- one number more
 
 pub greatest-snoc : (xs : List ℕ) (x : ℕ) → greatest (xs ++ (x ∷ [])) ≡ max (greatest xs) x
@@ -52,6 +61,11 @@ pub greatest-more : (xs ys : List ℕ) → greatest xs ≤ greatest (xs ++ ys)
 unfolding greatest
 greatest-more [] ys = omega arith
 greatest-more (x ∷ xs) ys = omega (arith, greatest-more xs ys)
+
+pub greatest-later : (xs ys : List ℕ) → greatest ys ≤ greatest (xs ++ ys)
+unfolding greatest
+greatest-later [] ys = omega arith
+greatest-later (x ∷ xs) ys = omega (arith, greatest-later xs ys)
 
 pub least-more : (xs ys : List ℕ) → 0 < length xs → least (xs ++ ys) ≤ least xs
 unfolding least

@@ -7,12 +7,13 @@ use native.Mathlib.Omega.{arith}
 use native.Mathlib.Nat.{add-zero}
 use lib.ListN.{length, getD, take, drop, length-append, length-drop}
 use lib.Seq.{slice, take-at, drop-at, drop-drop, ext-getD}
-use Rattle.format.specs.Lists.{joined, least}
+use Rattle.format.specs.Lists.{joined, greatest, least}
 use Rattle.format.specs.Bits.{numberAt}
 use Rattle.format.specs.Layout.{bigEndian, inFours, groupNumbers, groupAt, groupsIn}
 use Rattle.format.specs.Grouping.{widthOf, endsBefore, groupsFrom, groupsOf, recordsFrom}
 use Rattle.format.specs.declared.Group.{Group}
 use Rattle.laws.specs.Lists.{take-of-drop, length-listed, getD-listed, joined-first}
+use Rattle.laws.specs.Extremes.{greatest-more, greatest-later}
 use Rattle.laws.specs.Stores.{length-flat, flat-at, number-back}
 
 -- ---- what the rule makes of a list, whatever the width and the added cost
@@ -78,6 +79,19 @@ pub few-groups : {A : Type 0} (groups : List (List A)) → NoneEmpty groups → 
 unfolding flatMap
 few-groups [] h = omega arith
 few-groups (group ∷ groups) h = omega (arith, h .0, few-groups groups (h .1), length-append group (allOf groups))
+
+-- a group among all
+pub greatest-group : (groups : List (List ℕ)) (g : ℕ) → g < length groups → greatest (getD groups g []) ≤ greatest (allOf groups)
+unfolding flatMap
+greatest-group [] g l = absurd (omega arith)
+greatest-group (group ∷ groups) zero l = greatest-more group (allOf groups)
+greatest-group (group ∷ groups) (suc g) l = omega (arith, greatest-group groups g (omega arith), greatest-later group (allOf groups))
+
+pub length-group : (groups : List (List ℕ)) (g : ℕ) → g < length groups → length (getD groups g []) ≤ length (allOf groups)
+unfolding flatMap
+length-group [] g l = absurd (omega arith)
+length-group (group ∷ groups) zero l = omega (arith, length-append group (allOf groups))
+length-group (group ∷ groups) (suc g) l = omega (arith, length-group groups g (omega arith), length-append group (allOf groups))
 
 -- ---- records
 

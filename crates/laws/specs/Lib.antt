@@ -14,3 +14,6 @@ pub mod Stores
 pub mod Signed
 pub mod Points
 pub mod Groups
+pub mod Parts
+pub mod Saying
+pub mod Codings

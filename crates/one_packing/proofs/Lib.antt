@@ -1,6 +1,3 @@
-pub mod Parts
-pub mod Saying
-pub mod Groups
 pub mod Points
 pub mod RoundTrip
 pub mod Accepting

@@ -2,29 +2,25 @@
 use mathlib.Core.Path.{_≡_, refl, ap, _∙_}
 use mathlib.Core.Bool.{Bool, true, false, cond}
 use mathlib.Core.List.{List, [], _++_, map}
-use Prim.Native.Nat.{ℕ, _+_, _-_, _<_}
+use Prim.Native.Nat.{ℕ, _+_, _-_, _^_, _<_}
 use native.Mathlib.Omega.{arith}
 use borrow.Author.Tests.{eqb-true}
 use lib.Dec.{eqb}
 use lib.ListN.{length, getD}
-use lib.IntN.{pos}
-use Rattle.format.specs.Lists.{listed, least}
+use Rattle.format.specs.Lists.{listed, greatest, least}
 use Rattle.format.specs.Bits.{roundedUp}
 use Rattle.format.specs.Grouping.{widthOf}
 use Rattle.format.specs.Template.{valuesAt}
-use Rattle.format.specs.Unpacking.{codesOf, referenceOf, groupLength, bitsBefore, Said, saidBy, decoded, pointOf, pointAt, pointsUpTo}
+use Rattle.format.specs.Unpacking.{Codes, codesOf, referenceOf, groupLength, bitsBefore, Said, saidBy, decoded, pointOf, pointAt, pointsUpTo}
 use Rattle.format.specs.Packing.{lengthCodes, valueString, payloadOf, templateOf}
-use Rattle.format.specs.declared.DecodedValue.{DecodedValue}
-use Rattle.format.specs.declared.DecodedValue.the-variants.{Normal}
 use Rattle.format.specs.declared.Template.{Template}
 use Rattle.laws.specs.Lists.{length-map, map-at, listed-ext, listed-map, joined-ext}
-use Rattle.laws.specs.Extremes.{least-lower, fits-width}
-use Rattle.laws.specs.Groups.{allOf, joined-map}
-use Rattle.one_packing.proofs.Saying.{Fitting, codes-back, said-back, at-end}
-use Rattle.one_packing.proofs.Groups.{valuesOf, codesFor, fitting}
-
-abbrev pub numberPoint : ℕ → DecodedValue
-numberPoint number = Normal (pos number)
+use Rattle.laws.specs.Digits.{bits-within}
+use Rattle.laws.specs.Extremes.{least-lower, least-greatest, fits-width}
+use Rattle.laws.specs.Groups.{allOf, joined-map, greatest-group}
+use Rattle.laws.specs.Saying.{Fitting, codes-back, said-back, at-end}
+use Rattle.laws.specs.Codings.{codesFor, Coded, fitting}
+use Rattle.one_packing.specs.Claims.{numberPoint}
 
 -- under management 0 no value is a missing code
 plain : (t : Template) → t .management ≡ 0 → (w value number : ℕ) → decoded t w value number ≡ numberPoint number
@@ -44,32 +40,57 @@ point-back t e group k l = by-test (eqb (widthOf group) 0) refl
         plain t e (t .width) (least group) (least group) ∙ ap numberPoint (omega (arith, one, least-lower group k l))
     by-test false h = plain t e (widthOf group) (getD group k 0 - least group) (getD group k 0 - least group + least group) ∙ ap numberPoint (omega (arith, least-lower group k l))
 
+-- its values
+abbrev pub valuesOf : List ℕ → List ℕ
+valuesOf group = map (λ number. number - least group) group
+
 -- the payload of a packing, behind a front and before whatever follows
 module _ (numbers : List ℕ) (groups : List (List ℕ)) (e : allOf groups ≡ numbers) (some : 0 < length groups) (front rest : List ℕ) where
   abbrev t : Template
   t = templateOf numbers groups
 
+  abbrev codes : Codes
+  codes = codesFor widthOf (map least groups) t groups
+
+  pub coded : Coded widthOf t groups
+  unfolding templateOf
+  coded = record { some = some; count = refl; widths = refl; lengths = refl }
+
+  reference-fits : (k : ℕ) → k < length (map least groups) → getD (map least groups) k 0 < 2 ^ t .width
+  unfolding templateOf
+  reference-fits k l =
+      let m : k < length groups = omega (arith, length-map least groups) in
+      rw (map-at least groups [] 0 k m)
+      (bits-within (least (getD groups k [])) (greatest numbers) (omega (arith, least-greatest (getD groups k []), greatest-group groups k m, ap greatest e)))
+
+  own : Fitting widthOf valuesOf [] t codes groups
+  own =
+      fitting widthOf (map least groups) t groups coded valuesOf (λ group. length-map (λ number. number - least group) group) (length-map least groups) reference-fits
+      (λ g l k m.
+      let group = getD groups g [] in
+      let n : k < length group = omega (arith, length-map (λ number. number - least group) group) in
+      rw (map-at (λ number. number - least group) group 0 0 k n) (fits-width group k n))
+
   abbrev pub sentPayload : List ℕ
   sentPayload = front ++ payloadOf t groups ++ rest
 
-  abbrev said : Said
-  said = record { codes = codesFor t groups; values = map valuesOf groups }
-
-  own : Fitting widthOf valuesOf [] t (codesFor t groups) groups
-  own = fitting numbers groups e some
-
-  pub packed-codes : codesOf (length front) t sentPayload ≡ codesFor t groups
+  pub packed-codes : codesOf (length front) t sentPayload ≡ codes
   unfolding payloadOf lengthCodes valueString
-  packed-codes = codes-back widthOf valuesOf [] t (codesFor t groups) 0 groups own front rest
-
-  pub packed-said : saidBy (length front) t sentPayload ≡ said
-  unfolding payloadOf lengthCodes valueString
-  packed-said = said-back widthOf valuesOf [] t (codesFor t groups) 0 groups own front rest
+  packed-codes = codes-back widthOf valuesOf [] t codes 0 groups own front rest
 
   -- with nothing after it, the payload ends with the last value's octet
-  pub packed-end : length (front ++ payloadOf t groups) ≡ valuesAt (length front) t + roundedUp (bitsBefore t (codesFor t groups) (t .groups))
+  pub packed-end : length (front ++ payloadOf t groups) ≡ valuesAt (length front) t + roundedUp (bitsBefore t codes (t .groups))
   unfolding payloadOf lengthCodes valueString
-  packed-end = at-end widthOf valuesOf [] t (codesFor t groups) 0 groups own front rest
+  packed-end = at-end widthOf valuesOf [] t codes 0 groups own front rest
+
+  -- ---- its points
+
+  abbrev said : Said
+  said = record { codes = codes; values = map valuesOf groups }
+
+  packed-said : saidBy (length front) t sentPayload ≡ said
+  unfolding payloadOf lengthCodes valueString
+  packed-said = said-back widthOf valuesOf [] t codes 0 groups own front rest
 
   own-point : (g k : ℕ) → g < length groups → k < length (getD groups g []) → pointAt t said g k ≡ numberPoint (getD (getD groups g []) k 0)
   unfolding pointAt referenceOf templateOf
@@ -78,7 +99,7 @@ module _ (numbers : List ℕ) (groups : List (List ℕ)) (e : allOf groups ≡ n
       rw (own .group-width g l, map-at least groups [] 0 g l, map-at valuesOf groups [] [] g l, map-at (λ number. number - least group) group 0 0 k m)
       (point-back t refl group k m)
 
-  own-points : (g : ℕ) → g < length groups → listed (groupLength t (said .codes) g) (pointAt t said g) ≡ map numberPoint (getD groups g [])
+  own-points : (g : ℕ) → g < length groups → listed (groupLength t codes g) (pointAt t said g) ≡ map numberPoint (getD groups g [])
   unfolding templateOf
   own-points g l =
       let group = getD groups g [] in
@@ -86,7 +107,7 @@ module _ (numbers : List ℕ) (groups : List (List ℕ)) (e : allOf groups ≡ n
       ∙ listed-ext (length group) (pointAt t said g) (λ k. numberPoint (getD group k 0)) (λ k m. own-point g k l m)
       ∙ listed-map numberPoint group 0 refl
 
-  pub packed-points : pointsUpTo t said (t .groups) ≡ map numberPoint numbers
+  pub packed-points : pointsUpTo t (saidBy (length front) t sentPayload) (t .groups) ≡ map numberPoint numbers
   unfolding pointsUpTo templateOf
   packed-points =
-      joined-ext (length groups) _ _ own-points ∙ joined-map numberPoint groups refl ∙ ap (map numberPoint) e
+      rw packed-said (joined-ext (length groups) _ _ own-points ∙ joined-map numberPoint groups refl ∙ ap (map numberPoint) e)

@@ -2,7 +2,7 @@
 -- nothing.
 use mathlib.Core.Path.{_≡_, refl, sym, ap, _∙_}
 use mathlib.Core.Bool.{false, and-false}
-use mathlib.Core.List.{List, [], _∷_, append-nil, map, flatMap}
+use mathlib.Core.List.{List, [], _∷_, _++_, append-nil, map, flatMap}
 use Prim.Native.Nat.{ℕ, zero, suc, _+_, _-_, _*_, _≤_, _<_}
 use native.Mathlib.Nat.{mul-le-mul-left, add-mul}
 use native.Mathlib.Omega.{arith}
@@ -12,21 +12,22 @@ use lib.ListN.{length, getD}
 use Rattle.format.specs.Lists.{listed, total, anyOf, greatest, least}
 use Rattle.format.specs.Bits.{roundedUp, spanOf}
 use Rattle.format.specs.Refusals.{left}
-use Rattle.format.specs.Template.{widthsAt, lengthsAt, valuesAt}
+use Rattle.format.specs.Template.{widthsAt, lengthsAt, valuesAt, kindRefusals}
 use Rattle.format.specs.Grouping.{bits, widthOf, groupsOf}
-use Rattle.format.specs.Unpacking.{codesOf, Said, groupWidth, groupLength, pointsBefore, bitsBefore, wrongGroup, placesOf, refusals52, unpack52}
+use Rattle.format.specs.Unpacking.{Codes, codesOf, groupWidth, groupLength, pointsBefore, bitsBefore, saidBy, pointsUpTo, wrongGroup, placesOf, locatedRefusals, countRefusals, roomRefusals, refusals52, unpack52}
 use Rattle.format.specs.Packing.{templateOf, payloadOf, packingOf}
 use Rattle.format.specs.declared.Template.{Template}
 use Rattle.format.specs.declared.Unpacked.the-variants as unpacked
-use Rattle.laws.specs.First.{clears, tests}
+use Rattle.laws.specs.First.{Clear, clears, clear-join, tests}
 use Rattle.laws.specs.Lists.{length-listed, getD-listed, length-map, map-at, any-none, any-not}
 use Rattle.laws.specs.Digits.{bits-le}
+use Rattle.laws.specs.Extremes.{greatest-each}
 use Rattle.laws.specs.Spans.{span-aligned}
-use Rattle.laws.specs.Groups.{allOf, NoneEmpty, groups-all, groups-none-empty, few-groups}
+use Rattle.laws.specs.Groups.{allOf, NoneEmpty, groups-all, groups-none-empty, few-groups, greatest-group, length-group}
 use Rattle.laws.specs.Points.{length-points}
-use Rattle.one_packing.specs.Claims.{Sent, pointsIn, Accepted, Limits, RoundTrip}
-use Rattle.one_packing.proofs.Groups.{valuesOf, codesFor, width-limits, length-limits, own-width, own-length, greatest-group, greatest-each, length-group}
-use Rattle.one_packing.proofs.Points.{numberPoint, packed-codes, packed-said, packed-end, packed-points}
+use Rattle.laws.specs.Codings.{codesFor, width-limits, length-limits, own-width, own-length}
+use Rattle.one_packing.specs.Claims.{Sent, pointsIn, numberPoint, Accepted, WithinLimits, RoundTrip}
+use Rattle.one_packing.proofs.Points.{coded, packed-codes, packed-end, packed-points}
 
 -- a total of products whose second factors are bounded
 total-bound : (n b : ℕ) (f g : ℕ → ℕ) → ((k : ℕ) → k < n → g k ≤ b) → total n (λ k. f k * g k) ≤ total n f * b
@@ -45,8 +46,8 @@ module _ (numbers : List ℕ) (groups : List (List ℕ)) (e : allOf groups ≡ n
   abbrev t : Template
   t = templateOf numbers groups
 
-  abbrev sent : Sent
-  sent = record { template = t; payload = payloadOf t groups }
+  abbrev codes : Codes
+  codes = codesFor widthOf (map least groups) t groups
 
   some-there : 0 < length groups
   some-there = some-groups groups (rw e some)
@@ -54,13 +55,15 @@ module _ (numbers : List ℕ) (groups : List (List ℕ)) (e : allOf groups ≡ n
   few-there : length groups ≤ 4194304
   few-there = omega (arith, few-groups groups none, ap length e)
 
-  codes-are : codesOf 0 t (payloadOf t groups) ≡ codesFor t groups
-  codes-are = rw append-nil at (packed-codes numbers groups e some-there [] [])
-
-  points-are : pointsIn sent ≡ map numberPoint numbers
-  points-are = rw (rw append-nil at (packed-said numbers groups e some-there [] [])) (packed-points numbers groups e some-there [] [])
+  count-is : t .groups ≡ length groups
+  unfolding templateOf
+  count-is = refl
 
   -- ---- limits
+
+  width-limited : t .width ≤ 31
+  unfolding templateOf
+  width-limited = bits-le 31 (greatest numbers) (omega arith)
 
   width-of : (g : ℕ) → g < length groups → widthOf (getD groups g []) ≤ 31
   unfolding widthOf
@@ -68,14 +71,14 @@ module _ (numbers : List ℕ) (groups : List (List ℕ)) (e : allOf groups ≡ n
       let group = getD groups g [] in
       bits-le 31 (greatest group - least group) (omega (arith, greatest-group groups g l, ap greatest e))
 
-  width-below : (g : ℕ) → g < length groups → groupWidth t (codesFor t groups) g ≤ 31
-  width-below g l = rw (own-width numbers groups e some-there g l) (width-of g l)
-
   length-of : (g : ℕ) → g < length groups → length (getD groups g []) ≤ 4194304
   length-of g l = omega (arith, length-group groups g l, ap length e)
 
-  length-below : (g : ℕ) → g < length groups → groupLength t (codesFor t groups) g ≤ 4194304
-  length-below g l = rw (own-length numbers groups e some-there g l) (length-of g l)
+  width-below : (g : ℕ) → g < length groups → groupWidth t codes g ≤ 31
+  width-below g l = rw (own-width widthOf (map least groups) t groups (coded numbers groups e some-there [] []) g l) (width-of g l)
+
+  length-below : (g : ℕ) → g < length groups → groupLength t codes g ≤ 4194304
+  length-below g l = rw (own-length widthOf (map least groups) t groups (coded numbers groups e some-there [] []) g l) (length-of g l)
 
   widths-limited : (t .widths .reference ≤ 31) × (t .widths .bits ≤ 5)
   unfolding templateOf
@@ -85,45 +88,77 @@ module _ (numbers : List ℕ) (groups : List (List ℕ)) (e : allOf groups ≡ n
   unfolding templateOf
   lengths-limited = length-limits (map length groups) (λ k l. let m : k < length groups = omega (arith, length-map length groups) in rw (map-at length groups [] 0 k m) (length-of k m))
 
-  width-limited : t .width ≤ 31
-  unfolding templateOf
-  width-limited = bits-le 31 (greatest numbers) (omega arith)
+  -- ---- a payload behind a front: no row refuses it as far as 7 for the values
 
-  count-is : t .groups ≡ length groups
-  unfolding templateOf
-  count-is = refl
+  module _ (front : List ℕ) where
+    abbrev payload : List ℕ
+    payload = front ++ payloadOf t groups
 
-  points-count : pointsBefore t (codesFor t groups) (t .groups) ≡ length numbers
-  points-count =
-      let said : Said = record { codes = codesFor t groups; values = map valuesOf groups } in
-      sym (length-points t said (t .groups)) ∙ ap length (packed-points numbers groups e some-there [] []) ∙ length-map numberPoint numbers
+    codes-are : codesOf (length front) t payload ≡ codes
+    codes-are = rw append-nil at (packed-codes numbers groups e some-there front [])
+
+    pub points-are : pointsUpTo t (saidBy (length front) t payload) (t .groups) ≡ map numberPoint numbers
+    points-are = rw append-nil at (packed-points numbers groups e some-there front [])
+
+    pub points-count : pointsBefore t (codesOf (length front) t payload) (t .groups) ≡ length numbers
+    unfolding saidBy
+    points-count = sym (length-points t (saidBy (length front) t payload) (t .groups)) ∙ ap length points-are ∙ length-map numberPoint numbers
+
+    payload-end : length payload ≡ valuesAt (length front) t + roundedUp (bitsBefore t codes (t .groups))
+    payload-end = packed-end numbers groups e some-there front []
+
+    ends : placesOf (length front) t codes .end .0 ≡ length payload
+    unfolding placesOf
+    ends = sym payload-end
+
+    none-wrong : anyOf (wrongGroup t codes) (listed (t .groups) (λ g. g)) ≡ false
+    unfolding wrongGroup
+    none-wrong =
+        any-not _ (listed (t .groups) (λ g. g)) 0
+        (λ g l.
+        let m : g < length groups = omega (arith, count-is, length-listed (t .groups) (λ i. i)) in
+        rw (
+          getD-listed (t .groups) (λ i. i) 0 g (omega (arith, count-is)),
+          le-ltb 31 (groupWidth t codes g) (width-below g m),
+          le-ltb 4294967295 (groupLength t codes g) (omega (arith, length-below g m)),
+        )
+        (and-false (ltb (suc g) (t .groups))))
+
+    pub located : Clear (locatedRefusals (length front) t payload)
+    located =
+        rw codes-are
+        (omega (arith, tests, count-is, some-there, few-there, width-limited, widths-limited .1, lengths-limited .3, payload-end, none-wrong, ends))
+
+  -- ---- the payload's length
 
   -- the octets of a field of the groups, and the bits of all values
   field-short : (w : ℕ) → w ≤ 31 → spanOf 0 w (t .groups) ≤ 16777216
   field-short w l = rw (span-aligned w (t .groups)) (omega (arith, mul-le-mul-left (t .groups) l, count-is, few-there))
 
-  values-short : bitsBefore t (codesFor t groups) (t .groups) ≤ length numbers * 31
+  values-short : bitsBefore t codes (t .groups) ≤ length numbers * 31
   unfolding bitsBefore pointsBefore
   values-short =
-      rw (← points-count)
-      (total-bound (t .groups) 31 (groupLength t (codesFor t groups)) (groupWidth t (codesFor t groups)) (λ k l. width-below k (omega (arith, count-is))))
-
-  payload-end : length (payloadOf t groups) ≡ valuesAt 0 t + roundedUp (bitsBefore t (codesFor t groups) (t .groups))
-  payload-end = packed-end numbers groups e some-there [] []
+      let all : total (t .groups) (groupLength t codes) ≡ length numbers = rw (codes-are []) at (points-count []) in
+      rw (← all) (total-bound (t .groups) 31 (groupLength t codes) (groupWidth t codes) (λ k l. width-below k (omega (arith, count-is))))
 
   payload-short : length (payloadOf t groups) ≤ 4294967295
   unfolding valuesAt lengthsAt widthsAt
   payload-short =
       omega (
         arith,
-        payload-end,
+        payload-end [],
         values-short,
         field-short (t .width) width-limited,
         field-short (t .widths .bits) (omega (arith, widths-limited .1)),
         field-short (t .lengths .bits) (omega (arith, lengths-limited .3)),
       )
 
-  pub limits : Limits sent
+  -- ---- template 5.2
+
+  abbrev sent : Sent
+  sent = record { template = t; payload = payloadOf t groups }
+
+  pub limits : WithinLimits sent
   limits = record {
     width = omega (arith, width-limited);
     some-groups = omega (arith, count-is, some-there);
@@ -134,56 +169,25 @@ module _ (numbers : List ℕ) (groups : List (List ℕ)) (e : allOf groups ≡ n
     increment = lengths-limited .1;
     last = omega (arith, lengths-limited .2);
     length-bits = omega (arith, lengths-limited .3);
-    widths = λ g l. rw codes-are (width-below g (omega (arith, count-is)));
-    lengths = λ g l. rw codes-are (omega (arith, length-below g (omega (arith, count-is))));
+    widths = λ g l. rw (codes-are []) (width-below g (omega (arith, count-is)));
+    lengths = λ g l. rw (codes-are []) (omega (arith, length-below g (omega (arith, count-is))));
     payload = payload-short;
   }
 
-  -- ---- acceptance
-
-  none-wrong : anyOf (wrongGroup t (codesFor t groups)) (listed (t .groups) (λ g. g)) ≡ false
-  unfolding wrongGroup
-  none-wrong =
-      any-not _ (listed (t .groups) (λ g. g)) 0
-      (λ g l.
-      let m : g < length groups = omega (arith, count-is, length-listed (t .groups) (λ i. i)) in
-      rw (
-        getD-listed (t .groups) (λ i. i) 0 g (omega (arith, count-is)),
-        le-ltb 31 (groupWidth t (codesFor t groups) g) (width-below g m),
-        le-ltb 4294967295 (groupLength t (codesFor t groups) g) (omega (arith, length-below g m)),
-      )
-      (and-false (ltb (suc g) (t .groups))))
-
-  kinds : (t .splitting ≡ 1) × (t .management ≡ 0)
+  kinds : Clear (kindRefusals t)
   unfolding templateOf
-  kinds = (refl, refl)
-
-  ends : placesOf 0 t (codesFor t groups) .end .0 ≡ length (payloadOf t groups)
-  unfolding placesOf
-  ends = sym payload-end
+  kinds = (refl, (refl, tt))
 
   pub accepted : Accepted sent
   unfolding unpack52
   accepted lent room =
-      let n : length (pointsIn sent) ≡ length numbers = ap length points-are ∙ length-map numberPoint numbers in
+      let n : length (pointsIn sent) ≡ length numbers = ap length (points-are []) ∙ length-map numberPoint numbers in
+      let counted = countRefusals (pointsBefore t (codesOf 0 t (payloadOf t groups)) (t .groups)) (length (pointsIn sent)) in
+      let located-too : Clear (kindRefusals t ++ locatedRefusals 0 t (payloadOf t groups)) = clear-join (kindRefusals t) (locatedRefusals 0 t (payloadOf t groups)) kinds (located []) in
       clears (λ r. left (unpacked.Refused r) lent) (refusals52 t (length (pointsIn sent)) (payloadOf t groups) lent) _
-      (rw codes-are
-      (omega (
-        arith,
-        tests,
-        kinds .0,
-        kinds .1,
-        limits .width,
-        limits .some-groups,
-        limits .few-groups,
-        limits .width-bits,
-        limits .length-bits,
-        payload-end,
-        none-wrong,
-        ends,
-        points-count,
-        n,
-      )))
+      (clear-join (kindRefusals t ++ locatedRefusals 0 t (payloadOf t groups) ++ counted) (roomRefusals (length lent) (length (pointsIn sent)))
+      (clear-join (kindRefusals t ++ locatedRefusals 0 t (payloadOf t groups)) counted located-too (omega (arith, tests, points-count [], n)))
+      (omega (arith, tests)))
 
 -- ---- by document 01's rule, whatever cost is added
 
@@ -196,4 +200,4 @@ round-trip added k numbers clear =
     let some : 0 < length numbers = omega (arith, tests, clear .0) in
     let few : length numbers ≤ 4194304 = omega (arith, tests, clear .1 .0) in
     let small : greatest numbers ≤ 2147483647 = greatest-each 2147483647 numbers (λ j l. ltb-false 2147483647 (getD numbers j 0) (any-none (ltb 2147483647) numbers 0 (clear .1 .1 .0) j l)) in
-    record { accepted = accepted numbers groups all none some few small; points = points-are numbers groups all none some few small; limits = limits numbers groups all none some few small }
+    record { accepted = accepted numbers groups all none some few small; points = points-are numbers groups all none some few small []; limits = limits numbers groups all none some few small }

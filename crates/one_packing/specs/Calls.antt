@@ -12,7 +12,7 @@ use Rattle.format.specs.Unpacking.{unpack52}
 use Rattle.format.specs.Packing.{pack}
 use Rattle.format.specs.declared.Template.{Template}
 use Rattle.cleatmow.specs.Calls.{called, PackCall, calledPack}
-use Rattle.one_packing.specs.Claims.{Sent, Lookahead, Roomy, packedBy}
+use Rattle.one_packing.specs.Claims.{Sent, Lookahead, EnoughRoom, packedBy}
 
 -- ---- calls that were made: what was handed over and lent, what came back, and what the call ensures of it
 
@@ -40,12 +40,16 @@ pub record PackMade : Type 0 where
 abbrev pub fourAt : List ℕ → ℕ → ℕ
 fourAt octets j = numberAt octets (j * 32) 32
 
+-- the number of point j
+abbrev pub eightAt : List ℕ → ℕ → ℕ
+eightAt points j = numberAt points ((j * pointSize + 1) * 8) 64
+
 -- "a point there is nine octets, the mark and then the number"; "A number to pack [..] take[s] four octets": each point has
 -- mark 0, and the numbers to pack are the points' numbers
 pub record Turned (count : ℕ) (points numbers : List ℕ) : Type 0 where
   pub all : wholeOnes 4 numbers ≡ count
   pub marks : (j : ℕ) → j < count → getD points (j * pointSize) 0 ≡ 0
-  pub same : (j : ℕ) → j < count → numberAt points ((j * pointSize + 1) * 8) 64 ≡ fourAt numbers j
+  pub same : (j : ℕ) → j < count → eightAt points j ≡ fourAt numbers j
 
 -- "Packing's eight template numbers, in the order of the cases, the group count and the payload length go to a lent 40
 -- octets"; "Splitting method 1, missing management 0": the packing that a caller has, from the octets that were lent
@@ -68,26 +72,32 @@ sentBy back =
 pub record Repacked (k : ℕ) (u : UnpackMade) (p : PackMade) : Type 0 where
   pub turned : Turned (u .declared) (u .points) (p .numbers)
   pub lookahead : p .lookahead ≡ k
-  pub room : Roomy (numbersIn (p .numbers)) (packedBy 0 k (numbersIn (p .numbers))) (p .groups) (p .payload) (p .summary)
+  pub room : EnoughRoom (packedBy 0 k (numbersIn (p .numbers))) (p .groups) (p .payload) (p .summary)
 
--- "accepted 5.2 packings (at least one point, none missing, no number above 2,147,483,647)": none is missing, since the marks
--- are 0
-pub record Right (u : UnpackMade) (p : PackMade) : Type 0 where
+-- "accepted 5.2 packings (at least one point, none missing, no number above 2,147,483,647)": that none is missing `Turned` says
+pub record Right (u : UnpackMade) : Type 0 where
   pub accepted : u .number ≡ 0
   pub some : 1 ≤ u .declared
-  pub small : (j : ℕ) → j < u .declared → fourAt (p .numbers) j ≤ 2147483647
+  pub small : (j : ℕ) → j < u .declared → eightAt (u .points) j ≤ 2147483647
 
--- what was packed is unpacked, with the same count declared and room for as many points
-pub record Resent (u : UnpackMade) (p : PackMade) (v : UnpackMade) : Type 0 where
+-- what was packed is unpacked, with as many points declared as numbers were packed, and room for them
+pub record Resent (p : PackMade) (v : UnpackMade) : Type 0 where
   pub template : v .template ≡ sentBy (p .back) .template
   pub payload : v .payload ≡ sentBy (p .back) .payload
-  pub declared : v .declared ≡ u .declared
-  pub room : u .declared * pointSize ≤ length (v .lent)
+  pub declared : v .declared ≡ wholeOnes 4 (p .numbers)
+  pub room : v .declared * pointSize ≤ length (v .lent)
 
 -- ---- the claims
 
--- of two packings a and b, packed again, and of what became of a, unpacked and packed once more
-pub record Shown (a b : UnpackMade) (pa pb : PackMade) (c : UnpackMade) (pc : PackMade) : Type 0 where
+-- Round trip: whatever list a call of packing took (all points of a map or some, from 5.2 or from 5.3), the call that unpacks
+-- what it gave leaves points of these numbers.
+abbrev pub RoundTripOfCalls : Type 0
+RoundTripOfCalls =
+    (p : PackMade) (v : UnpackMade) → p .back .number ≡ 0 → Resent p v → (v .number ≡ 0) × Turned (v .declared) (v .points) (p .numbers)
+
+-- Canonical and idempotent: of two packings a and b, packed again, and of what became of a, unpacked and packed once more. By
+-- `Turned` the numbers packed are those in the points.
+pub record Shown (a : UnpackMade) (pa pb : PackMade) (c : UnpackMade) (pc : PackMade) : Type 0 where
   pub packed : (pa .back .number ≡ 0) × (pb .back .number ≡ 0)
   pub canonical : (sentBy (pa .back) ≡ sentBy (pb .back)) ↔ (numbersIn (pa .numbers) ≡ numbersIn (pb .numbers))
   pub unpacked : c .number ≡ 0
@@ -98,5 +108,5 @@ pub record Shown (a b : UnpackMade) (pa pb : PackMade) (c : UnpackMade) (pc : Pa
 abbrev pub OfCalls : Type 0
 OfCalls =
     (k : ℕ) → Lookahead k → (a b : UnpackMade) (pa pb : PackMade) (c : UnpackMade) (pc : PackMade)
-    → Right a pa → Repacked k a pa → Right b pb → Repacked k b pb → Resent a pa c → Repacked k c pc
-    → Shown a b pa pb c pc
+    → Right a → Repacked k a pa → Right b → Repacked k b pb → Resent pa c → Repacked k c pc
+    → Shown a pa pb c pc

@@ -25,14 +25,23 @@ pub record Sent : Type 0 where
   pub template : Template
   pub payload : List ℕ
 
--- its points, and the number that each holds
+-- its points
 abbrev pub pointsIn : Sent → List DecodedValue
 pointsIn sent = pointsUpTo (sent .template) (saidBy 0 (sent .template) (sent .payload)) (sent .template .groups)
 
-abbrev pub numbersOf : Sent → List ℕ
-numbersOf sent = map (λ point. twosComplement (heldBy point)) (pointsIn sent)
+-- the number that a point holds, as it stands in the point's octets, and all of them
+abbrev pub heldNumber : DecodedValue → ℕ
+heldNumber point = twosComplement (heldBy point)
 
--- Unpacking accepts it with the count of its points declared, and gives them, whatever is lent with room for them.
+abbrev pub numbersOf : Sent → List ℕ
+numbersOf sent = map heldNumber (pointsIn sent)
+
+-- a number as a point
+abbrev pub numberPoint : ℕ → DecodedValue
+numberPoint number = Normal (pos number)
+
+-- Unpacking accepts it and gives its points, whatever is lent with room for them. It accepts no count but theirs (9), and that
+-- it does so with one lent buffer is enough: no other refusal looks at what is lent.
 abbrev pub Accepted : Sent → Type 0
 Accepted sent =
     (lent : List ℕ) → length (pointsIn sent) * pointSize ≤ length lent
@@ -63,12 +72,12 @@ abbrev pub again : ℕ → ℕ → Sent → Sent
 again added k sent = packedBy added k (numbersOf sent)
 
 -- a list that packing accepts with a lookahead: no row of 13 refuses it
-abbrev pub Packable : ℕ → List ℕ → Type 0
-Packable k numbers = Clear (numberRefusals k numbers)
+abbrev pub Acceptable : ℕ → List ℕ → Type 0
+Acceptable k numbers = Clear (numberRefusals k numbers)
 
--- lent buffers with room for a packing of some numbers: each group has a number at least
-pub record Roomy (numbers : List ℕ) (sent : Sent) (groups payload summary : List ℕ) : Type 0 where
-  pub for-groups : length numbers * groupSize ≤ length groups
+-- lent buffers with room for a packing
+pub record EnoughRoom (sent : Sent) (groups payload summary : List ℕ) : Type 0 where
+  pub for-groups : sent .template .groups * groupSize ≤ length groups
   pub for-payload : length (sent .payload) ≤ length payload
   pub for-summary : summarySize ≤ length summary
 
@@ -84,7 +93,7 @@ givenBy p = record { answer = p .answer; payload = p .payload; summary = p .summ
 -- Packing accepts the numbers where there is room, and gives this packing.
 abbrev pub Packs : ℕ → List ℕ → Sent → Type 0
 Packs k numbers sent =
-    (groups payload summary : List ℕ) → Roomy numbers sent groups payload summary
+    (groups payload summary : List ℕ) → EnoughRoom sent groups payload summary
     → givenBy (pack k numbers groups payload summary)
     ≡ record {
       answer = packed.Payload (sent .template) (record { 0 = length (sent .payload) });
@@ -95,7 +104,7 @@ Packs k numbers sent =
 -- ---- the claims
 
 -- what packing reports is within unpacking's limits, and within the octets that the template numbers have
-pub record Limits (sent : Sent) : Type 0 where
+pub record WithinLimits (sent : Sent) : Type 0 where
   pub width : sent .template .width ≤ 31
   pub some-groups : 1 ≤ sent .template .groups
   pub few-groups : sent .template .groups ≤ 4194304
@@ -113,11 +122,15 @@ pub record Limits (sent : Sent) : Type 0 where
 -- declared, and unpacks to the list.
 pub record Returned (numbers : List ℕ) (sent : Sent) : Type 0 where
   pub accepted : Accepted sent
-  pub points : pointsIn sent ≡ map (λ number. Normal (pos number)) numbers
-  pub limits : Limits sent
+  pub points : pointsIn sent ≡ map numberPoint numbers
+  pub limits : WithinLimits sent
 
 abbrev pub RoundTrip : ℕ → Type 0
-RoundTrip added = (k : ℕ) (numbers : List ℕ) → Packable k numbers → Returned numbers (packedBy added k numbers)
+RoundTrip added = (k : ℕ) (numbers : List ℕ) → Acceptable k numbers → Returned numbers (packedBy added k numbers)
+
+-- Packing accepts what is demanded: "unpack any two [..] and pack them again"
+abbrev pub Repackable : Type 0
+Repackable = (k : ℕ) → Lookahead k → (a : Sent) → Demanded a → Acceptable k (numbersOf a)
 
 -- Canonical: "equal parameters and octets exactly when they held the same numbers"
 abbrev pub Canonical : ℕ → Type 0
@@ -126,20 +139,25 @@ Canonical added =
     → (again added k a ≡ again added k b) ↔ (pointsIn a ≡ pointsIn b)
 
 -- Idempotent: "the result unpacks to those numbers; doing it again changes no octet"
+pub record Unchanged (a once twice : Sent) : Type 0 where
+  pub demanded : Demanded once
+  pub points : pointsIn once ≡ pointsIn a
+  pub same : twice ≡ once
+
 abbrev pub Idempotent : ℕ → Type 0
 Idempotent added =
-    (k : ℕ) → Lookahead k → (a : Sent) → Demanded a
-    → (pointsIn (again added k a) ≡ pointsIn a) × (again added k (again added k a) ≡ again added k a)
+    (k : ℕ) → Lookahead k → (a : Sent) → Demanded a → Unchanged a (again added k a) (again added k (again added k a))
 
--- All three hold of what packing gives by document 01's rule: of a list that it accepts it gives this packing, and a list of
--- which it gives any is one that it accepts.
+-- All of this holds of what packing gives by document 01's rule: of a list that it accepts it gives this packing where there is
+-- room, and where it gives any, the list was one that it accepts, and there was room.
 abbrev pub ByPacking : Type 0
-ByPacking = (k : ℕ) (numbers : List ℕ) → Packable k numbers → Packs k numbers (packedBy 0 k numbers)
+ByPacking = (k : ℕ) (numbers : List ℕ) → Acceptable k numbers → Packs k numbers (packedBy 0 k numbers)
 
-abbrev pub PackableAlone : Type 0
-PackableAlone =
-    (k : ℕ) (numbers groups payload summary : List ℕ) → packedNumber (pack k numbers groups payload summary .answer) ≡ 0 → Packable k numbers
+abbrev pub ByPackingAlone : Type 0
+ByPackingAlone =
+    (k : ℕ) (numbers groups payload summary : List ℕ) → packedNumber (pack k numbers groups payload summary .answer) ≡ 0
+    → Acceptable k numbers × EnoughRoom (packedBy 0 k numbers) groups payload summary
 
 -- Demand 3, whole
 abbrev pub DemandThree : Type 0
-DemandThree = RoundTrip 0 × Canonical 0 × Idempotent 0 × ByPacking × PackableAlone
+DemandThree = RoundTrip 0 × Repackable × Canonical 0 × Idempotent 0 × ByPacking × ByPackingAlone

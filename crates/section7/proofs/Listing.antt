@@ -37,7 +37,3 @@ pub greatest-upto : (b n : ℕ) (f : ℕ → ℕ) → ((i : ℕ) → i < n → f
 unfolding greatest listed
 greatest-upto b zero f h = omega arith
 greatest-upto b (suc n) f h = omega (arith, h 0 (omega arith), greatest-upto b n (λ i. f (suc i)) (λ i l. h (suc i) (omega arith)))
-
-pub divided-le : (x y d : ℕ) → x ≤ y → x / d ≤ y / d
-divided-le x y zero h = omega (arith, div-zero x, div-zero y)
-divided-le x y (suc d) h = le-div-iff-mul-le {k = suc d} (omega arith) .1 (le-trans (div-mul-le-self x (suc d)) h)

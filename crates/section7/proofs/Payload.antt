@@ -25,6 +25,7 @@ use Rattle.format.specs.declared.Template.{Template}
 use Rattle.laws.specs.Lists.{map-listed, listed-ext}
 use Rattle.laws.specs.Bits.{bit-lt, number-lt}
 use Rattle.laws.specs.Codes.{but-last-listed}
+use Rattle.laws.specs.Divisors.{divided-le}
 use Rattle.laws.specs.Digits.{bits-le, bits-within}
 use Rattle.laws.specs.Strings.{length-padded}
 use Rattle.laws.specs.Stores.{sets-append, sets-front}
@@ -32,7 +33,7 @@ use Rattle.numbers.specs.Records.{numberOf, codedTemplate}
 use Rattle.numbers.specs.declared.Field.the-variants.{References, Widths, Lengths}
 use Rattle.section7.specs.Parts.{codeOf, codesOf, referencesCoding, widthsCoding, lengthsCoding, valueStringOf, valueBits, Codable, Sound, Narrow, placesFor, payloadIn, payloadLent}
 use Rattle.section7.specs.declared.Coding.{Coding}
-use Rattle.section7.proofs.Listing.{flat-listed, greatest-at, least-at, greatest-upto, divided-le}
+use Rattle.section7.proofs.Listing.{flat-listed, greatest-at, least-at, greatest-upto}
 use Rattle.section7.proofs.Values.{values-wide, least-upto, size-all}
 use Rattle.section7.proofs.Codings.{codes-are, size-codes, size-last}
 

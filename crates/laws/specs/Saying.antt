@@ -11,10 +11,10 @@ use Rattle.format.specs.Template.{widthsAt, lengthsAt, valuesAt}
 use Rattle.format.specs.Unpacking.{Codes, codesOf, groupWidth, groupLength, bitsBefore, saidBy}
 use Rattle.format.specs.Packing.{padded}
 use Rattle.format.specs.declared.Template.{Template}
 use Rattle.laws.specs.Lists.{listed-ext, listed-map, total-ext}
 use Rattle.laws.specs.Spans.{span-aligned}
 use Rattle.laws.specs.Strings.{bits-string, length-string, length-padded, string-append}
-use Rattle.one_packing.proofs.Parts.{Fit, field-first, field-alone, valueBits, values-back, bits-of}
+use Rattle.laws.specs.Parts.{Fit, field-first, field-alone, valueBits, values-back, bits-of}
 
 -- octets of a field that is padded
 pub part-size : (w : ℕ) (xs : List ℕ) {n : ℕ} → length xs ≡ n → length (padded (stringOf w xs)) ≡ spanOf 0 w n

@@ -1,36 +1,26 @@
--- The groups of a packing come back from its template numbers and codes: widths, lengths, references, values. Assumes nothing.
+-- The groups of a packing come back from its template numbers and codes, whatever their widths are made of. Assumes nothing.
 use mathlib.Core.Path.{_≡_, refl, sym, ap, _∙_}
 use mathlib.Core.Bool.{Bool, true, false, cond}
-use mathlib.Core.List.{List, [], _∷_, _++_, map, flatMap}
+use mathlib.Core.List.{List, [], _∷_, map}
 use Prim.Native.Nat.{ℕ, zero, suc, _+_, _-_, _*_, _/_, _^_, _≤_, _<_}
 use native.Mathlib.Nat.{div-le-self}
 use native.Mathlib.Omega.{arith}
 use borrow.Author.Tests.{eqb-true, eqb-false}
 use lib.Dec.{eqb}
-use lib.ListN.{length, getD, length-append}
+use lib.ListN.{length, getD}
 use Rattle.format.specs.Lists.{greatest, least}
-use Rattle.format.specs.Grouping.{bits, widthOf}
+use Rattle.format.specs.Grouping.{bits}
 use Rattle.format.specs.Unpacking.{Codes, groupWidth, groupLength}
-use Rattle.format.specs.Packing.{butLast, gcdFrom, incrementOf, widthCoding, lengthCoding, templateOf}
+use Rattle.format.specs.Packing.{butLast, gcdFrom, incrementOf, widthCoding, lengthCoding}
 use Rattle.format.specs.declared.Lengths.{Lengths}
 use Rattle.format.specs.declared.Template.{Template}
 use Rattle.laws.specs.Lists.{length-map, map-at}
 use Rattle.laws.specs.Codes.{length-but-last, but-last-at}
-use Rattle.laws.specs.Divisors.{increment-whole, increment-le}
+use Rattle.laws.specs.Divisors.{increment-whole, increment-le, divided-le}
 use Rattle.laws.specs.Digits.{bits-within, bits-le}
-use Rattle.laws.specs.Extremes.{greatest-upper, least-lower, least-greatest, greatest-more, fits-width}
-use Rattle.laws.specs.Groups.{allOf}
-use Rattle.section7.proofs.Listing.{divided-le}
-use Rattle.one_packing.proofs.Saying.{Fitting}
-
--- numbers up to b
-abbrev pub UpTo : ℕ → List ℕ → Type 0
-UpTo b xs = (k : ℕ) → k < length xs → getD xs k 0 ≤ b
-
-pub greatest-each : (b : ℕ) (xs : List ℕ) → UpTo b xs → greatest xs ≤ b
-unfolding greatest
-greatest-each b [] h = omega arith
-greatest-each b (x ∷ xs) h = omega (arith, h 0 (omega arith), greatest-each b xs (λ k l. h (suc k) (omega arith)))
+use Rattle.laws.specs.Extremes.{UpTo, greatest-upper, greatest-each, least-lower, least-greatest}
+use Rattle.laws.specs.Parts.{Fit}
+use Rattle.laws.specs.Saying.{Fitting}
 
 up-to-all : (b : ℕ) (xs : List ℕ) → UpTo b xs → (k : ℕ) → getD xs k 0 ≤ b
 up-to-all b [] h k = omega arith
@@ -106,95 +96,74 @@ module _ (lengths : List ℕ) where
         bits-le 23 (greatest differences / incrementOf (gcdFrom 0 differences)) (omega (arith, top, div-le-self (greatest differences) (incrementOf (gcdFrom 0 differences)))),
       )
 
--- ---- the numbers of the groups among all numbers
+-- ---- groups
 
-greatest-later : (xs ys : List ℕ) → greatest ys ≤ greatest (xs ++ ys)
-unfolding greatest
-greatest-later [] ys = omega arith
-greatest-later (x ∷ xs) ys = omega (arith, greatest-later xs ys)
-
-pub greatest-group : (groups : List (List ℕ)) (g : ℕ) → g < length groups → greatest (getD groups g []) ≤ greatest (allOf groups)
-unfolding flatMap
-greatest-group [] g l = absurd (omega arith)
-greatest-group (group ∷ groups) zero l = greatest-more group (allOf groups)
-greatest-group (group ∷ groups) (suc g) l = omega (arith, greatest-group groups g (omega arith), greatest-later group (allOf groups))
-
-pub length-group : (groups : List (List ℕ)) (g : ℕ) → g < length groups → length (getD groups g []) ≤ length (allOf groups)
-unfolding flatMap
-length-group [] g l = absurd (omega arith)
-length-group (group ∷ groups) zero l = omega (arith, length-append group (allOf groups))
-length-group (group ∷ groups) (suc g) l = omega (arith, length-group groups g (omega arith), length-append group (allOf groups))
-
--- ---- a packing of some groups
-
--- its values, its codes
-abbrev pub valuesOf : List ℕ → List ℕ
-valuesOf group = map (λ number. number - least group) group
-
-abbrev pub codesFor : Template → List (List ℕ) → Codes
-codesFor t groups = record {
-  references = map least groups;
-  widths = map (λ group. widthOf group - t .widths .reference) groups;
+-- the codes of groups with these references
+abbrev pub codesFor : {A : Type 0} → (List A → ℕ) → List ℕ → Template → List (List A) → Codes
+codesFor wide references t groups = record {
+  references = references;
+  widths = map (λ group. wide group - t .widths .reference) groups;
   lengths = map (λ length. (length - t .lengths .reference) / t .lengths .increment) (butLast (map length groups));
 }
 
-module _ (numbers : List ℕ) (groups : List (List ℕ)) (e : allOf groups ≡ numbers) (some : 0 < length groups) where
-  abbrev t : Template
-  t = templateOf numbers groups
+-- a template whose widths and lengths are coded as document 01 says
+pub record Coded {A : Type 0} (wide : List A → ℕ) (t : Template) (groups : List (List A)) : Type 0 where
+  pub some : 0 < length groups
+  pub count : t .groups ≡ length groups
+  pub widths : t .widths ≡ widthCoding (map wide groups)
+  pub lengths : t .lengths ≡ lengthCoding (map length groups)
 
+module _ {A : Type 0} (wide : List A → ℕ) (references : List ℕ) (t : Template) (groups : List (List A)) (h : Coded wide t groups) where
   abbrev codes : Codes
-  codes = codesFor t groups
+  codes = codesFor wide references t groups
 
   counted : length (map length groups) ≡ length groups
   counted = length-map length groups
 
   but-last : length (butLast (map length groups)) + 1 ≡ length groups
-  but-last = omega (arith, length-but-last (map length groups), counted)
+  but-last = omega (arith, length-but-last (map length groups), counted, h .some)
 
-  pub own-width : (g : ℕ) → g < length groups → groupWidth t codes g ≡ widthOf (getD groups g [])
-  unfolding templateOf groupWidth
+  pub own-width : (g : ℕ) → g < length groups → groupWidth t codes g ≡ wide (getD groups g [])
+  unfolding groupWidth
   own-width g l =
-      let m : g < length (map widthOf groups) = omega (arith, length-map widthOf groups) in
-      rw (map-at (λ group. widthOf group - widthCoding (map widthOf groups) .reference) groups [] 0 g l, ← map-at widthOf groups [] 0 g l)
-      (width-back (map widthOf groups) g m)
+      let m : g < length (map wide groups) = omega (arith, length-map wide groups) in
+      rw (map-at (λ group. wide group - t .widths .reference) groups [] 0 g l, h .widths, ← map-at wide groups [] 0 g l)
+      (width-back (map wide groups) g m)
 
   pub own-length : (g : ℕ) → g < length groups → groupLength t codes g ≡ length (getD groups g [])
-  unfolding templateOf groupLength
-  own-length g l = by-test (eqb (suc g) (length groups)) refl
+  unfolding groupLength
+  own-length g l = rw (h .count, h .lengths) (by-test (eqb (suc g) (length groups)) refl)
     where
+      coded : List ℕ
+      coded = map (λ n. (n - lengthCoding (map length groups) .reference) / lengthCoding (map length groups) .increment) (butLast (map length groups))
+
       by-test : (b : Bool) → eqb (suc g) (length groups) ≡ b
-          → cond b (lengthCoding (map length groups) .last) (getD (codes .lengths) g 0 * lengthCoding (map length groups) .increment + lengthCoding (map length groups) .reference) ≡ length (getD groups g [])
-      by-test true h =
-          let p : length (map length groups) - 1 ≡ g = omega (arith, counted, eqb-true (suc g) (length groups) h) in
+          → cond b (lengthCoding (map length groups) .last) (getD coded g 0 * lengthCoding (map length groups) .increment + lengthCoding (map length groups) .reference) ≡ length (getD groups g [])
+      by-test true e =
+          let p : length (map length groups) - 1 ≡ g = omega (arith, counted, eqb-true (suc g) (length groups) e) in
           last-is (map length groups) ∙ ap (λ (k : ℕ). getD (map length groups) k 0) p ∙ map-at length groups [] 0 g l
-      by-test false h =
-          let m : g < length (butLast (map length groups)) = omega (arith, but-last, eqb-false (suc g) (length groups) h) in
-          rw (map-at (λ length. (length - t .lengths .reference) / t .lengths .increment) (butLast (map length groups)) 0 0 g m)
+      by-test false e =
+          let m : g < length (butLast (map length groups)) = omega (arith, but-last, eqb-false (suc g) (length groups) e) in
+          rw (map-at (λ n. (n - lengthCoding (map length groups) .reference) / lengthCoding (map length groups) .increment) (butLast (map length groups)) 0 0 g m)
           (length-back (map length groups) g m ∙ but-last-at (map length groups) g (omega (arith, but-last, counted)) ∙ map-at length groups [] 0 g l)
 
-  pub fitting : Fitting widthOf valuesOf [] t codes groups
-  unfolding templateOf
-  fitting = record {
-    count = refl;
-    references = length-map least groups;
-    widths = length-map (λ group. widthOf group - widthCoding (map widthOf groups) .reference) groups;
-    lengths = ap (λ (n : ℕ). n + 1) (length-map (λ length. (length - t .lengths .reference) / t .lengths .increment) (butLast (map length groups))) ∙ but-last;
-    fit-references = λ k l.
-        let m : k < length groups = omega (arith, length-map least groups) in
-        rw (map-at least groups [] 0 k m)
-        (bits-within (least (getD groups k [])) (greatest numbers) (omega (arith, least-greatest (getD groups k []), greatest-group groups k m, ap greatest e)));
+  pub fitting : (values : List A → List ℕ) → ((group : List A) → length (values group) ≡ length group) → length references ≡ length groups → Fit (t .width) references
+      → ((g : ℕ) → g < length groups → Fit (wide (getD groups g [])) (values (getD groups g []))) → Fitting wide values [] t codes groups
+  fitting values long many fit-references fit = record {
+    count = sym (h .count);
+    references = many ∙ sym (h .count);
+    widths = length-map (λ group. wide group - t .widths .reference) groups ∙ sym (h .count);
+    lengths = ap (λ (n : ℕ). n + 1) (length-map (λ length. (length - t .lengths .reference) / t .lengths .increment) (butLast (map length groups))) ∙ but-last ∙ sym (h .count);
+    fit-references = fit-references;
     fit-widths = λ k l.
-        let code : List ℕ → ℕ = λ group. widthOf group - widthCoding (map widthOf groups) .reference in
+        let code : List A → ℕ = λ group. wide group - t .widths .reference in
         let m : k < length groups = omega (arith, length-map code groups) in
-        rw (map-at code groups [] 0 k m, ← map-at widthOf groups [] 0 k m) (width-fits (map widthOf groups) k (omega (arith, length-map widthOf groups)));
+        rw (map-at code groups [] 0 k m, h .widths, ← map-at wide groups [] 0 k m) (width-fits (map wide groups) k (omega (arith, length-map wide groups)));
     fit-lengths = λ k l.
         let code : ℕ → ℕ = λ length. (length - t .lengths .reference) / t .lengths .increment in
         let m : k < length (butLast (map length groups)) = omega (arith, length-map code (butLast (map length groups))) in
-        rw (map-at code (butLast (map length groups)) 0 0 k m) (length-fits (map length groups) k m);
-    fit = λ g l k m.
-        let group = getD groups g [] in
-        let n : k < length group = omega (arith, length-map (λ number. number - least group) group) in
-        rw (map-at (λ number. number - least group) group 0 0 k n) (fits-width group k n);
-    group-width = own-width;
-    group-length = λ g l. own-length g l ∙ sym (length-map (λ number. number - least (getD groups g [])) (getD groups g []));
+        rw (map-at code (butLast (map length groups)) 0 0 k m, h .lengths) (length-fits (map length groups) k m);
+    fit = λ g l. fit g (omega (arith, h .count));
+    group-width = λ g l. own-width g (omega (arith, h .count));
+    group-length = λ g l. own-length g (omega (arith, h .count)) ∙ sym (long (getD groups g []));
   }
