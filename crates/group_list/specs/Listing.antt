@@ -1,0 +1,36 @@
+-- Document 01, "Grouping and packing": the list of groups, over plain numbers. Assumes nothing.
+use Prim.Native.Nat.{ℕ, _+_, _*_, _/_, min}
+use mathlib.Core.List.{List}
+use lib.ListN.{length, getD}
+use Rattle.format.specs.Lists.{listed, _over_}
+use Rattle.format.specs.declared.Group.{Group}
+
+-- "four numbers each: start, length, least number, width": group k of plain numbers
+abbrev pub groupAmong : List ℕ → ℕ → Group
+groupAmong numbers k = record {
+  start = getD numbers (k * 4) 0;
+  length = getD numbers (k * 4 + 1) 0;
+  least = getD numbers (k * 4 + 2) 0;
+  width = getD numbers (k * 4 + 3) 0;
+}
+
+-- what is read behind the last group. "A group starts with one number.": its length tells it from any group
+abbrev pub noGroup : Group
+noGroup = record { start = 0; length = 0; least = 0; width = 0 }
+
+-- as many of `count` groups as the list has room for and the numbers hold whole
+abbrev pub fittingOf : ℕ → ℕ → ℕ → ℕ
+fittingOf count room have = min count (min room (have / 4))
+
+-- what filling comes to: how many groups, and the lent list as it is left
+pub record Filling : Type 0 where
+  pub answer : ℕ
+  pub list : List Group
+
+abbrev pub filling : ℕ → List Group → Filling
+filling answer list = record { answer = answer; list = list }
+
+abbrev pub filled : List ℕ → ℕ → List Group → Filling
+filled numbers count lent =
+    let fits = fittingOf count (length lent) (length numbers) in
+    filling fits (listed fits (groupAmong numbers) over lent)
