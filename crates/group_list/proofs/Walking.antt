@@ -1,6 +1,7 @@
--- What the walks over a list of groups share: how a `Group` lies in memory, and steps that each of them takes. Assumes nothing.
--- A `Group`'s size and the places of its fields come out of its type. So a fifth field changes one line here, `fits-is`, and the
--- literals of four numbers that `group_at` walks; what the numbers of a group are, `groupAmong` and `gather` say.
+-- What the walks over a list of groups share: how a `Group` lies in memory, and steps that more than one of them takes. Assumes
+-- nothing.
+-- A `Group`'s size and the places of its fields stand nowhere else, and come out of its type. A fifth field adds a fact to
+-- `fits-is` and `none-is`, and a number to each literal that is walked: the one of `group_at`, and `list_groups`' in the program.
 use mathlib.Core.Path.{_≡_, refl, sym}
 use mathlib.Core.List.{List, [], _∷_}
 use mathlib.Core.WellFounded.{WellFounded, InvImage·wf}

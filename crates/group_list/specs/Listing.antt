@@ -1,8 +1,9 @@
 -- Document 01, "Grouping and packing": the list of groups, over plain numbers. Assumes nothing.
 use Prim.Native.Nat.{ℕ, _+_, _*_, _/_, min}
 use mathlib.Core.List.{List}
-use lib.ListN.{length, getD}
+use lib.ListN.{length, getD, take}
 use Rattle.format.specs.Lists.{listed, _over_}
+use Rattle.format.specs.Grouping.{recordsFrom, groups01}
 use Rattle.format.specs.declared.Group.{Group}
 
 -- "four numbers each: start, length, least number, width": group k of plain numbers
@@ -34,3 +35,9 @@ abbrev pub filled : List ℕ → ℕ → List Group → Filling
 filled numbers count lent =
     let fits = fittingOf count (length lent) (length numbers) in
     filling fits (listed fits (groupAmong numbers) over lent)
+
+-- "The groups go to a lent list of groups": as many of a list's groups by document 01's rule as there is room for
+abbrev pub groupsListed : ℕ → List ℕ → List Group → Filling
+groupsListed k numbers lent =
+    let groups = take (length lent) (recordsFrom 0 (groups01 k numbers)) in
+    filling (length groups) (groups over lent)

@@ -63,12 +63,14 @@ fn show_listed(name: &[u8], lookahead: u32, numbers: &[u8]) {
 }
 
 fn main() {
+    // "Pack 0 0 0 0 8 8 8, k 2"
     show_listed(
         b"0 0 0 0 8 8 8, k 2",
         2,
         b"\0\0\0\0\0\0\0\0\0\0\0\0\0\0\0\0\0\0\0\x08\0\0\0\x08\0\0\0\x08",
     );
+    // "Pack 5 6 5 7, k 1", of whose four groups three fit. "The same, k 4"
     let numbers = b"\0\0\0\x05\0\0\0\x06\0\0\0\x05\0\0\0\x07";
-    show_listed(b"5 6 5 7, k 4", 4, numbers);
     show_listed(b"5 6 5 7, k 1", 1, numbers);
+    show_listed(b"5 6 5 7, k 4", 4, numbers);
 }
