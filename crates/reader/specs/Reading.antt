@@ -20,7 +20,8 @@ use Rattle.reader.specs.declared.Taken.the-variants as taken
 abbrev pub readerOn : RefT (List ℕ) → Cursor → Reader
 readerOn octets cursor = record { octets = octets; cursor = cursor }
 
--- "bit field width outside its range or starting bit above 7": here the field may start at any bit below 2^63
+-- "bit field width outside its range or starting bit above 7": here a field starts at any bit below 2^63, from where a
+-- cursor moves on within 64 bits
 unfoldable pub outside : Cursor → Bool
 outside c = ltb 32 (c .width) || leb (2 ^ 63) (c .place .0)
 
@@ -29,7 +30,7 @@ abbrev pub numberIn : Step → Taken
 numberIn (step.Number number behind) = taken.Number number
 numberIn step.End = taken.End
 
--- "Bit reader: 5, 7": the next number, or the end, of a field that the octets hold to its last number
+-- "Bit reader: 5, 7": the next number, or the end, of a field that the octets hold as far as its last number
 unfoldable pub takenAt : List ℕ → Cursor → Taken
 takenAt octets c =
     first taken.Refused

@@ -1,8 +1,8 @@
 // The reader that holds the octets and its place in them, thin over the cursor by value. The borrow checker covers no
-// function over such a struct: each of those is proved by hand, and leaves the work to one that takes the octets and the
-// cursor apart.
+// function over such a struct: each of those is proved by hand, and leaves its work to one that takes the octets and the
+// cursor as they are.
 ghost use mathlib.Core.Path.{_≡_};
-ghost use Prim.Native.Nat.{_+_, _*_, _<_, _≤_, _^_, min};
+ghost use Prim.Native.Nat.{_<_, _≤_, _^_, min};
 ghost use Rattle.format.specs.Bits.{spanOf};
 ghost use Rattle.reader.specs.Reading.{readerOn, outside, takenAt, movedOn};
 use format::BitPlace;
@@ -11,7 +11,19 @@ use format::Refusal;
 use stream::Cursor;
 use stream::Step;
 
-// Whether a cursor is none that `Cursor::next` takes.
+pub struct Reader<'a> {
+    pub octets: &'a [u8],
+    pub cursor: Cursor,
+}
+
+// The next number, the end where none is left, or why it cannot be read.
+pub enum Taken {
+    Number(u32),
+    End,
+    Refused(Refusal),
+}
+
+// Whether a cursor is none that `Cursor::next` takes: it would move past what 64 bits count.
 fn is_outside(cursor: Cursor) -> bool
     ensures { λ r. ⌜ r ≡ outside cursor ⌝ }
 {
@@ -38,14 +50,7 @@ fn reach(cursor: Cursor) -> OctetPlace
     places::octets_to(BitPlace(place.0 + bits))
 }
 
-// The next number, the end where none is left, or why there is none.
-pub enum Taken {
-    Number(u32),
-    End,
-    Refused(Refusal),
-}
-
-// What stands at a cursor. `Cursor::next` asks that its width and its place are in their range; here each has its answer.
+// Width and place, which `Cursor::next` asks for, have their answer here, and so have octets that end too early.
 fn taken_at(octets: &[u8], cursor: Cursor) -> Taken
     ensures { λ r. ⌜ r ≡ takenAt (now (octets .entry)) cursor ⌝ }
 {
@@ -61,7 +66,7 @@ fn taken_at(octets: &[u8], cursor: Cursor) -> Taken
     }
 }
 
-// The cursor behind the next `count` numbers.
+// The cursor behind the next `count` numbers, or behind the last.
 fn moved_on(cursor: Cursor, count: u32) -> Cursor
     ensures { λ r. ⌜ r ≡ movedOn cursor count ⌝ }
 {
@@ -78,19 +83,13 @@ fn moved_on(cursor: Cursor, count: u32) -> Cursor
     }
 }
 
-// Octets, and the place in them that is to be read.
-pub struct Reader<'a> {
-    pub octets: &'a [u8],
-    pub cursor: Cursor,
-}
-
 pub fn new<'a>(octets: &'a [u8], cursor: Cursor) -> Reader<'a>
     ensures { λ r. ⌜ r ≡ readerOn (octets .entry) cursor ⌝ }
 {
     Reader { octets, cursor }
 }
 
-// The next number.
+// An enum can hold no reader, so the number comes alone: `moved` goes on behind it.
 pub fn number<'a>(reader: Reader<'a>) -> Taken
     ensures { λ r. ⌜ r ≡ takenAt (now (reader .entry .octets)) (reader .entry .cursor) ⌝ }
 {
@@ -104,7 +103,6 @@ pub fn left<'a>(reader: Reader<'a>) -> u32
     reader.cursor.left
 }
 
-// The same octets, behind the next `count` numbers.
 pub fn moved<'a>(reader: Reader<'a>, count: u32) -> Reader<'a>
     ensures { λ r. ⌜ r ≡ readerOn (reader .entry .octets) (movedOn (reader .entry .cursor) count) ⌝ }
 {
@@ -114,7 +112,7 @@ pub fn moved<'a>(reader: Reader<'a>, count: u32) -> Reader<'a>
     }
 }
 
-// The number behind the next `count` ones of a cursor, for callers that hold no reader.
+// For callers that hold no reader, and so need no proof by hand: the number behind the next `count` ones.
 pub fn number_after(octets: &[u8], cursor: Cursor, count: u32) -> Taken
     ensures { λ r. ⌜ r ≡ takenAt (now (octets .entry)) (movedOn cursor count) ⌝ }
 {

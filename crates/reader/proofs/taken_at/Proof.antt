@@ -1,8 +1,7 @@
 -- `reader::taken_at` meets its contract. Assumes nothing.
 use mathlib.Core.Path.{_≡_, sym, ap, _∙_}
-use mathlib.Core.Bool.{true, false}
+use mathlib.Core.Bool.{true}
 use borrow.Author.Needs.{needs}
-use borrow.Author.Tests.{lt-ltb, le-ltb}
 use Rattle.format.specs.Refusals.{first}
 use Rattle.reader.specs.Reading.{outside, numberIn, takenAt}
 use Rattle.reader.proofs.Taking.{inside, short, taken}
