@@ -8,6 +8,9 @@ use format::Fetched;
 use format::Stored;
 use libc::STDIN_FILENO;
 use libc::STDOUT_FILENO;
+use reader::Taken;
+use stream::Cursor;
+use stream::Made;
 
 fn small(x: u8) -> usize
     ensures { λ r. ⌜ (r ≡ x) × (r < 256) ⌝ }
@@ -40,6 +43,36 @@ fn numbers_in(octets: &[u8]) -> [u32; 4] {
     numbers
 }
 
+// Whether number k of a field, by the reader, is the frozen one. Behind the last a row has zeros.
+fn is_number(octets: &[u8], field: Cursor, k: u32, frozen: u32) -> bool {
+    match reader::number_after(octets, field, k) {
+        Taken::Number(number) => number == frozen,
+        Taken::End => frozen == 0,
+        Taken::Refused(_) => false,
+    }
+}
+
+fn reads_one_by_one(octets: &[u8], field: Cursor, frozen: &[u32; 4]) -> bool {
+    is_number(octets, field, 0, frozen[0])
+        && is_number(octets, field, 1, frozen[1])
+        && is_number(octets, field, 2, frozen[2])
+        && is_number(octets, field, 3, frozen[3])
+}
+
+fn reads_at_once(octets: &[u8], field: Cursor, frozen: &[u32; 4]) -> bool {
+    let mut numbers = [0u32; 4];
+    match stream::read_field(octets, field.place, field.width, field.left, &mut numbers) {
+        Fetched::Refused(_) => false,
+        Fetched::Done => {
+            numbers[0] == frozen[0]
+                && numbers[1] == frozen[1]
+                && numbers[2] == frozen[2]
+                && numbers[3] == frozen[3]
+        }
+    }
+}
+
+// A field is read twice, by the reader and by the bit reader.
 fn reads_as_frozen(row: &[u8]) -> bool {
     if row.len() < 64 {
         return false;
@@ -49,18 +82,11 @@ fn reads_as_frozen(row: &[u8]) -> bool {
         return false;
     }
     let frozen = numbers_in(&row[24..40]);
-    let mut numbers = [0u32; 4];
     let start = BitPlace(small(row[1]));
-    let width = small(row[2]);
-    match stream::read_field(&row[4..24], start, width, count as u32, &mut numbers) {
-        Fetched::Refused(_) => false,
-        Fetched::Done => {
-            numbers[0] == frozen[0]
-                && numbers[1] == frozen[1]
-                && numbers[2] == frozen[2]
-                && numbers[3] == frozen[3]
-        }
-    }
+    let Made::Cursor(field) = Cursor::new(start, small(row[2]), count as u32) else {
+        return false;
+    };
+    reads_one_by_one(&row[4..24], field, &frozen) && reads_at_once(&row[4..24], field, &frozen)
 }
 
 // Whether writing the first numbers leaves the frozen octets in twenty zeroed ones.
