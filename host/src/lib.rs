@@ -81,6 +81,7 @@ pub mod maps;
 mod packing;
 mod refusal;
 mod run_length;
+mod section5;
 mod unpacking;
 
 pub use packing::{
@@ -89,6 +90,7 @@ pub use packing::{
 };
 pub use refusal::Refusal;
 pub use run_length::{run_length, run_length_into, LEVEL_OCTETS};
+pub use section5::{NotSection5, Physical, Section5, TemplateNumbers};
 pub use unpacking::{
     points_in, unpack_complex, unpack_complex_into, unpack_spatial, unpack_spatial_into, Differences, Point, Template,
     POINT_OCTETS,
