@@ -6,11 +6,11 @@ CARGO := cargo --offline --quiet
 .NOTPARALLEL:
 .PHONY: desk test host compare freeze bench check fmt clean
 
-# The main job. Until the desk command exists: prove every crate and run the programs on document 01's cases and the
-# frozen answers.
+# The main job: the archive and the host, and with them a day at the desk on the maps of samples/.
 desk:
-	@rt check
-	@echo "The desk command is not there yet; every crate is proved, and document 01's cases and the frozen answers ran."
+	@test -e host/target/release/desk || test -n "$$CLEATMOW_ARCHIVE_DIR" || \
+		echo "The first time, the crates under the C calls are proved, which takes minutes." >&2
+	@cd host && $(CARGO) run --release --bin desk -- day --samples ../samples
 
 # All checks: the layout of the files; the host's tests through the C calls; the live comparison with the Rust, where its
 # text is there; then, from nothing, every crate, every must-fail edit and every program. rt ci comes last, so that its

@@ -68,9 +68,12 @@
 //! # Ok::<(), cleatmow::Refusal>(())
 //! ```
 //!
-//! Its build runs `rt staticlib cleatmow` in the folder above and links the archive; `rt`, the Rattle toolchain, must
-//! be on the PATH. `CLEATMOW_ARCHIVE_DIR` names a folder that has `libcleatmow.a` already, and nothing is made then.
-//! A host in another language links `target/staticlib/libcleatmow.a` and includes `include/cleatmow.h`.
+//! [`Section5`] reads and writes Section 5 itself: it hands the template numbers over and judges none of them. `desk`,
+//! the command of this crate, works on maps as their two sections; `desk --help` says how.
+//!
+//! The build of this crate runs `rt staticlib cleatmow` in the folder above and links the archive; `rt`, the Rattle
+//! toolchain, must be on the PATH. `CLEATMOW_ARCHIVE_DIR` names a folder that has `libcleatmow.a` already, and nothing
+//! is made then. A host in another language links `target/staticlib/libcleatmow.a` and includes `include/cleatmow.h`.
 
 #![deny(missing_docs, unsafe_code)]
 
@@ -81,6 +84,7 @@ pub mod maps;
 mod packing;
 mod refusal;
 mod run_length;
+mod section5;
 mod unpacking;
 
 pub use packing::{
@@ -89,6 +93,7 @@ pub use packing::{
 };
 pub use refusal::Refusal;
 pub use run_length::{run_length, run_length_into, LEVEL_OCTETS};
+pub use section5::{NotSection5, Physical, Section5, TemplateNumbers};
 pub use unpacking::{
     points_in, unpack_complex, unpack_complex_into, unpack_spatial, unpack_spatial_into, Differences, Point, Template,
     POINT_OCTETS,

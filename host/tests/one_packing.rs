@@ -7,12 +7,11 @@ mod support;
 use cleatmow::maps::{self, Numbers};
 use cleatmow::{
     groups_in, numbers_as_octets, numbers_of_points, pack_into, points_in, Group, NoNumberToPack, Point, Refusal,
-    Template, GREATEST_LOOKAHEAD, GREATEST_NUMBER, GROUP_OCTETS, NUMBER_OCTETS, POINT_OCTETS, SUMMARY_OCTETS,
+    Section5, Template, GREATEST_LOOKAHEAD, GREATEST_NUMBER, GROUP_OCTETS, NUMBER_OCTETS, POINT_OCTETS, SUMMARY_OCTETS,
 };
 use std::collections::HashMap;
 use support::model::{octets_of, template, Input};
 use support::others;
-use support::section5::Section5;
 use writer::Choices;
 
 /// A writer of packings under 5.2 that knows no grouping rule: whatever unpacking leaves to a writer is chosen by
@@ -477,14 +476,8 @@ fn packings_of_one_map_by_chance() {
 /// here, and those of the benchmark.
 #[test]
 fn packings_of_long_maps() {
-    let section5 = include_bytes!("../../samples/gfs-gust-144x73.s5").to_vec();
-    let section5 = Section5::from_octets(section5).expect("a whole section 5");
-    let service = Input {
-        template: section5.template(),
-        differences: Some(section5.differences()),
-        declared: section5.declared(),
-        payload: include_bytes!("../../samples/gfs-gust-144x73.s7")[5..].to_vec(),
-    };
+    let section5 = Section5::from_octets(include_bytes!("../../samples/gfs-gust-144x73.s5")).expect("a Section 5");
+    let service = Input::of_map(&section5, &include_bytes!("../../samples/gfs-gust-144x73.s7")[5..]);
     let mut chance = Numbers::new(74);
     for map in [numbers_of(&unpacked(&service)), maps::gust_numbers(5_000)] {
         assert!(map.len() >= 5_000);
@@ -579,8 +572,7 @@ fn packings_by_other_writers() {
     let accepted = others::maps().into_iter().filter(|map| map.template == 2 && map.refusal.is_none());
     let (mut held, mut too_great, mut missing) = (Vec::new(), 0, 0);
     for map in accepted {
-        let (template, declared) = (map.section5.template(), map.section5.declared());
-        let input = Input { template, differences: None, declared, payload: map.payload };
+        let input = Input::of_map(&map.section5, &map.payload);
         let points = unpacked(&input);
         let first = points_in(&points).enumerate().find(|(_, point)| !matches!(point, Point::Number(_)));
         if let Some((place, point)) = first {

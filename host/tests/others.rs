@@ -2,20 +2,20 @@
 
 mod support;
 
-use cleatmow::{run_length, Point, Refusal};
+use cleatmow::{run_length, Point, Refusal, TemplateNumbers};
 use std::collections::HashSet;
 use support::model::{self, Input};
 use support::others::{maps, Map, LINES};
 
 /// Unpacks every map of a template, of which the file must have so many, and holds the answers to the file's.
-fn hold(template: u32, count: usize, unpack: fn(&Map) -> Result<Vec<Point>, Refusal>) {
+fn hold(template: u16, count: usize, unpack: fn(&Map) -> Result<Vec<Point>, Refusal>) {
     let listed = LINES.matches(&format!(" t={template} ")).count();
     let mut run = 0;
     for map in maps().iter().filter(|map| map.template == template) {
         let (id, answer) = (&map.id, unpack(map));
         match (&answer, map.refusal) {
             (Ok(points), None) => {
-                assert_eq!(points.len(), map.section5.declared() as usize, "{id}");
+                assert_eq!(points.len(), map.section5.declared as usize, "{id}");
                 assert!(map.has(points), "{id}: other points");
             }
             _ => assert_eq!(answer.map(|points| points.len()).err(), map.refusal, "{id}"),
@@ -26,12 +26,7 @@ fn hold(template: u32, count: usize, unpack: fn(&Map) -> Result<Vec<Point>, Refu
 }
 
 fn input(map: &Map) -> Input {
-    Input {
-        template: map.section5.template(),
-        differences: (map.template == 3).then(|| map.section5.differences()),
-        declared: map.section5.declared(),
-        payload: map.payload.clone(),
-    }
+    Input::of_map(&map.section5, &map.payload)
 }
 
 #[test]
@@ -65,8 +60,10 @@ fn the_model_agrees() {
 #[test]
 fn run_length_maps() {
     hold(200, 30, |map| {
-        let (bits, max_level) = (map.section5.number(12..=12) as u8, map.section5.number(13..=14) as u16);
-        let levels = run_length(bits, max_level, map.section5.declared(), &map.payload)?;
+        let TemplateNumbers::RunLength { bits, max_level } = map.section5.numbers else {
+            panic!("{}: no map of levels", map.id);
+        };
+        let levels = run_length(bits, max_level, map.section5.declared, &map.payload)?;
         Ok(levels.into_iter().map(|level| Point::Number(i64::from(level))).collect())
     });
 }

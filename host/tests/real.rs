@@ -2,9 +2,8 @@
 
 mod support;
 
-use cleatmow::{points_in, Point, Refusal, POINT_OCTETS};
+use cleatmow::{points_in, Point, Refusal, Section5, POINT_OCTETS};
 use support::model::Input;
-use support::section5::Section5;
 use support::sha256::sha256;
 
 /// A map, and what the two tables of samples/README.md say of it.
@@ -13,7 +12,7 @@ struct Map {
     section5: &'static [u8],
     section7: &'static [u8],
     /// 2 or 3.
-    template: u32,
+    template: u16,
     /// Order and descriptor octets, or none under 5.2.
     differences: Option<(u8, u8)>,
     missing_management: u8,
@@ -69,16 +68,11 @@ const MAPS: [Map; 3] = [
 impl Map {
     /// What a call is given, from both sections. Section 7 says its length and its number, and then has the payload.
     fn input(&self) -> Input {
-        let section5 = Section5::from_octets(self.section5.to_vec()).expect(self.name);
+        let section5 = Section5::from_octets(self.section5).expect(self.name);
         let (header, payload) = self.section7.split_at(5);
         assert_eq!(header, [&(self.section7.len() as u32).to_be_bytes()[..], &[7]].concat(), "{}", self.name);
         assert_eq!(section5.template_number(), self.template, "{}", self.name);
-        Input {
-            template: section5.template(),
-            differences: (self.template == 3).then(|| section5.differences()),
-            declared: section5.declared(),
-            payload: payload.to_vec(),
-        }
+        Input::of_map(&section5, payload)
     }
 }
 

@@ -5,5 +5,4 @@
 pub mod guarded;
 pub mod model;
 pub mod others;
-pub mod section5;
 pub mod sha256;

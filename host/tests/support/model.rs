@@ -4,7 +4,7 @@
 //! `oracle/src/unpacking.rs` says the same. The two are written apart on purpose, each from document 01 and neither from
 //! the other, as two witnesses: a slip of one should not be a slip of both.
 
-use cleatmow::{Differences, Point, Refusal, Template};
+use cleatmow::{Differences, Point, Refusal, Section5, Template, TemplateNumbers};
 
 /// What a call is given beside the lent buffer. Without differences it is template 5.2, with them 5.3.
 #[derive(Clone, Debug)]
@@ -16,6 +16,14 @@ pub struct Input {
 }
 
 impl Input {
+    /// A map under 5.2 or 5.3.
+    pub fn of_map(section5: &Section5, payload: &[u8]) -> Input {
+        let TemplateNumbers::Groups { template, differences, .. } = section5.numbers else {
+            panic!("a map of levels: {section5:?}");
+        };
+        Input { template, differences, declared: section5.declared, payload: payload.to_vec() }
+    }
+
     /// What the call answers, and leaves in the octets.
     pub fn call(&self, points: &mut [u8]) -> u32 {
         let called = match &self.differences {

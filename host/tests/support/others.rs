@@ -1,9 +1,8 @@
 //! The maps of samples/others.txt. The head of that file says how a line goes.
 
 use super::model::octets_of;
-use super::section5::Section5;
 use super::sha256::sha256;
-use cleatmow::{Point, Refusal};
+use cleatmow::{Point, Refusal, Section5};
 
 /// The file, line by line.
 pub const LINES: &str = include_str!("../../../samples/others.txt");
@@ -13,7 +12,7 @@ pub const LINES: &str = include_str!("../../../samples/others.txt");
 pub struct Map {
     pub id: String,
     /// 2, 3 or 200.
-    pub template: u32,
+    pub template: u16,
     /// What document 01 does with it, where that is a refusal. Otherwise it gives the points.
     pub refusal: Option<Refusal>,
     pub section5: Section5,
@@ -41,7 +40,7 @@ impl Map {
                 "same" => None,
                 refused => Some(Refusal::from_number(refused.strip_prefix("refused-")?.parse().ok()?)?),
             },
-            section5: Section5::from_octets(octets(value("s5")?)?)?,
+            section5: Section5::from_octets(&octets(value("s5")?)?).ok()?,
             payload: match value("pay")? {
                 "-" => Vec::new(),
                 hex => octets(hex)?,
@@ -54,7 +53,7 @@ impl Map {
         };
         let agreed = map.section5.template_number() == map.template;
         let listed =
-            |points: &Vec<Point>| points.len() == map.section5.declared() as usize && map.digest == digest(points);
+            |points: &Vec<Point>| points.len() == map.section5.declared as usize && map.digest == digest(points);
         let whole = words.next().is_none() && !map.id.is_empty() && map.digest.len() == 32;
         (agreed && whole && map.points.as_ref().is_none_or(listed)).then_some(map)
     }
