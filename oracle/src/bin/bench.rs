@@ -14,11 +14,6 @@ fn main() {
     println!("{}", oracle::NOT_RUN);
 }
 
-// Section 5 of a real map, as the host's tests read it.
-#[cfg(have_text)]
-#[path = "../../../host/tests/support/section5.rs"]
-mod section5;
-
 #[cfg(have_text)]
 fn main() {
     let Some(options) = bench::Options::from_words(std::env::args().skip(1)) else {
@@ -36,12 +31,10 @@ mod bench {
     use cleatmow::maps::{self, ComplexMap, RunLengthMap, gust_differences, gust_numbers, gusts, rain};
     use cleatmow::{
         GREATEST_LOOKAHEAD, GROUP_OCTETS, LEVEL_OCTETS, MOST_POINTS, POINT_OCTETS, Packing, Point, SUMMARY_OCTETS,
-        Summary, groups_in, numbers_as_octets, pack, pack_into, points_in, run_length, run_length_into, unpack_complex,
-        unpack_complex_into, unpack_spatial, unpack_spatial_into,
+        Section5, Summary, TemplateNumbers, groups_in, numbers_as_octets, pack, pack_into, points_in, run_length,
+        run_length_into, unpack_complex, unpack_complex_into, unpack_spatial, unpack_spatial_into,
     };
     use oracle::{Outcome, Packed, Section7, rust_pack, rust_run_length, rust_unpack_complex, rust_unpack_spatial};
-
-    use crate::section5::Section5;
 
     /// A map of samples/, by its name.
     macro_rules! real {
@@ -79,9 +72,10 @@ mod bench {
 
     /// The host's tests hold its points to their digests; here they are what the Rust makes of it.
     fn real(section_5: &[u8], section_7: &[u8]) -> ComplexMap {
-        let section_5 = Section5::from_octets(section_5.to_vec()).expect("a whole Section 5");
-        let template = section_5.template();
-        let differences = (section_5.template_number() == 3).then(|| section_5.differences());
+        let section_5 = Section5::from_octets(section_5).expect("a whole Section 5");
+        let TemplateNumbers::Groups { template, differences, .. } = section_5.numbers else {
+            panic!("a map of levels")
+        };
         let payload = section_7[5..].to_vec();
         // Not by the functions that are timed: their instructions are counted wherever they are called from.
         let points = match &differences {
@@ -89,7 +83,7 @@ mod bench {
             Some(differences) => oracle::unpack_spatial(&template, differences, &payload),
         };
         let Outcome::Answer(points) = points else { panic!("not a good map") };
-        ComplexMap { template, differences, declared: section_5.declared(), payload, points }
+        ComplexMap { template, differences, declared: section_5.declared, payload, points }
     }
 
     /// A list that the Rust would take too long for, or that ours might.
