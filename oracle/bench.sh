@@ -1,6 +1,7 @@
 #!/bin/sh
-# The benchmark that docs/PERFORMANCE.md describes: nanoseconds a point of ours and of the Rust, then instructions a
-# point of both, counted by callgrind. It runs from anywhere, and writes to cargo's target/ and a temporary folder only.
+# The benchmark that docs/PERFORMANCE.md describes: nanoseconds a point of ours, of the Rust and of the limit, then
+# instructions a point of them, counted by callgrind. It runs from anywhere, and writes to cargo's target/ and a temporary
+# folder only.
 set -eu
 cd "$(dirname "$0")"
 
@@ -8,8 +9,10 @@ cd "$(dirname "$0")"
 OPERATIONS="run_length:run_length unpack_complex:unpack_complex
     unpack_spatial_1:unpack_spatial unpack_spatial_2:unpack_spatial
     real_gust:unpack_spatial real_conus:unpack_complex real_puerto_rico:unpack_spatial
-    pack_8:pack pack_64:pack pack_1024:pack"
-# Those where the Rust is left out: at the greatest lookahead it would take too long.
+    pack_8:pack pack_64:pack pack_1024:pack
+    pack_real_gust_8:pack pack_real_gust_64:pack pack_real_gust_1024:pack pack_real_gust_65535:pack
+    pack_real_conus_8:pack pack_real_conus_64:pack pack_real_conus_1024:pack pack_real_conus_65535:pack"
+# Those where the Rust is left out: at the greatest lookahead it would take too long. No limit is asked of them.
 ALONE="pack_65535:pack pack_rising:pack pack_sawtooth:pack pack_patches:pack pack_alternating:pack
     pack_doubling:pack pack_spikes:pack pack_comb:pack"
 # Of the made maps: enough for a steady count, and few enough for callgrind. The real ones have the points that they have.
@@ -56,6 +59,13 @@ for pair in $OPERATIONS; do
     echo "$operation: ${ours% *} points, instructions a point"
     echo "  ours, lent buffer  ${ours#* }"
     echo "  Rust, new list     ${rust#* }"
+    test "${rust% *}" = "${ours% *}" || echo "  the Rust packs the first ${rust% *} alone"
+    case $function in
+    unpack_*) limit=$(counted "$operation" limit "bench::*::only_store") ;;
+    pack) limit=$(counted "$operation" limit "bench::*::only_read") ;;
+    *) continue ;;
+    esac
+    echo "  limit              ${limit#* }"
 done
 
 for pair in $ALONE; do

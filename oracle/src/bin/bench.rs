@@ -3,9 +3,11 @@
 //!
 //! `bench [OPERATION] [--points N]` times one operation or all, on maps of N points, 1,000,000 without the option. Those
 //! that begin with `real_` unpack the real maps of samples/, which have the points that they have. Those that begin
-//! with `pack_` pack numbers: a number after it is the lookahead, on the numbers of a made map; a word names a list
-//! that is hard to group, at the greatest lookahead or, for `comb`, at the one that is hardest for it.
-//! With `--only-ours` or `--only-rust` it makes one call and times nothing, for a tool that counts instructions.
+//! with `pack_` pack numbers: a number after it is the lookahead, on the numbers of a made map; `real_` and a name is a
+//! real map, and the lookahead comes last; any other word names a list that is hard to group, at the greatest lookahead
+//! or, for `comb`, at the one that is hardest for it.
+//! With `--only-ours`, `--only-rust` or `--only-limit` it makes one call and times nothing, for a tool that counts
+//! instructions.
 //!
 //! An operation is a type that is an `Operation`, and a line in `OPERATIONS`.
 
@@ -13,11 +15,6 @@
 fn main() {
     println!("{}", oracle::NOT_RUN);
 }
-
-// Section 5 of a real map, as the host's tests read it.
-#[cfg(have_text)]
-#[path = "../../../host/tests/support/section5.rs"]
-mod section5;
 
 #[cfg(have_text)]
 fn main() {
@@ -35,13 +32,11 @@ mod bench {
 
     use cleatmow::maps::{self, ComplexMap, RunLengthMap, gust_differences, gust_numbers, gusts, rain};
     use cleatmow::{
-        GREATEST_LOOKAHEAD, GROUP_OCTETS, LEVEL_OCTETS, MOST_POINTS, POINT_OCTETS, Packing, Point, SUMMARY_OCTETS,
-        Summary, groups_in, numbers_as_octets, pack, pack_into, points_in, run_length, run_length_into, unpack_complex,
-        unpack_complex_into, unpack_spatial, unpack_spatial_into,
+        GREATEST_LOOKAHEAD, GROUP_OCTETS, LEVEL_OCTETS, MOST_POINTS, NUMBER_OCTETS, POINT_OCTETS, Packing, Point,
+        SUMMARY_OCTETS, Section5, Summary, TemplateNumbers, groups_in, numbers_as_octets, pack, pack_into, points_in,
+        run_length, run_length_into, unpack_complex, unpack_complex_into, unpack_spatial, unpack_spatial_into,
     };
     use oracle::{Outcome, Packed, Section7, rust_pack, rust_run_length, rust_unpack_complex, rust_unpack_spatial};
-
-    use crate::section5::Section5;
 
     /// A map of samples/, by its name.
     macro_rules! real {
@@ -53,20 +48,38 @@ mod bench {
         };
     }
 
-    /// Every operation, by a name of this program's own. `bench.sh` says which C call and which function of the oracle
-    /// are behind it.
-    const OPERATIONS: [(&str, Run); 18] = [
-        ("run_length", |name, options| bench(name, RunLength::new(options.points), options)),
+    /// Every operation, by a name of this program's own. `bench.sh` says which C call, which function of the oracle and
+    /// which limit are behind it.
+    const OPERATIONS: [(&str, Run); 26] = [
+        ("run_length", |name, options| {
+            bench(name, RunLength::new(options.points), options);
+            if options.calls == Calls::Timed {
+                println!("  on the made map alone: none of the real maps of samples/ is packed so");
+            }
+        }),
         ("unpack_complex", |name, options| bench(name, Unpacking::new(gusts(options.points)), options)),
         ("unpack_spatial_1", |name, options| bench(name, Unpacking::new(gust_differences(1, options.points)), options)),
         ("unpack_spatial_2", |name, options| bench(name, Unpacking::new(gust_differences(2, options.points)), options)),
         ("real_gust", |name, options| bench(name, Unpacking::new(real!("gfs-gust-144x73")), options)),
         ("real_conus", |name, options| bench(name, Unpacking::new(real!("ndfd-conus-1073x689")), options)),
         ("real_puerto_rico", |name, options| bench(name, Unpacking::new(real!("ndfd-puerto-rico-339x224")), options)),
-        ("pack_8", |name, options| bench(name, BesideTheRust::new(gust_numbers(options.points), 8, 1), options)),
-        ("pack_64", |name, options| bench(name, BesideTheRust::new(gust_numbers(options.points), 64, 1), options)),
-        // On all numbers the Rust would take a minute and a half.
-        ("pack_1024", |name, options| bench(name, BesideTheRust::new(gust_numbers(options.points), 1024, 16), options)),
+        ("pack_8", |name, options| pack_beside(name, gust_numbers(options.points), 8, 1, options)),
+        ("pack_64", |name, options| pack_beside(name, gust_numbers(options.points), 64, 1, options)),
+        // On all numbers the Rust would take minutes.
+        ("pack_1024", |name, options| pack_beside(name, gust_numbers(options.points), 1_024, 16, options)),
+        ("pack_real_gust_8", |name, options| pack_beside(name, real_gust_numbers(), 8, 1, options)),
+        ("pack_real_gust_64", |name, options| pack_beside(name, real_gust_numbers(), 64, 1, options)),
+        ("pack_real_gust_1024", |name, options| pack_beside(name, real_gust_numbers(), 1_024, 1, options)),
+        ("pack_real_gust_65535", |name, options| {
+            pack_beside(name, real_gust_numbers(), GREATEST_LOOKAHEAD, 1, options)
+        }),
+        ("pack_real_conus_8", |name, options| pack_beside(name, real_conus_numbers(), 8, 1, options)),
+        ("pack_real_conus_64", |name, options| pack_beside(name, real_conus_numbers(), 64, 1, options)),
+        // On all numbers the Rust would take most of a minute, and at the greatest lookahead most of an hour.
+        ("pack_real_conus_1024", |name, options| pack_beside(name, real_conus_numbers(), 1_024, 16, options)),
+        ("pack_real_conus_65535", |name, options| {
+            pack_beside(name, real_conus_numbers(), GREATEST_LOOKAHEAD, 16, options)
+        }),
         ("pack_65535", |name, options| hard(name, gust_numbers, GREATEST_LOOKAHEAD, options)),
         ("pack_rising", |name, options| hard(name, maps::rising, GREATEST_LOOKAHEAD, options)),
         ("pack_sawtooth", |name, options| hard(name, maps::sawtooth, GREATEST_LOOKAHEAD, options)),
@@ -79,9 +92,10 @@ mod bench {
 
     /// The host's tests hold its points to their digests; here they are what the Rust makes of it.
     fn real(section_5: &[u8], section_7: &[u8]) -> ComplexMap {
-        let section_5 = Section5::from_octets(section_5.to_vec()).expect("a whole Section 5");
-        let template = section_5.template();
-        let differences = (section_5.template_number() == 3).then(|| section_5.differences());
+        let section_5 = Section5::from_octets(section_5).expect("a whole Section 5");
+        let TemplateNumbers::Groups { template, differences, .. } = section_5.numbers else {
+            panic!("a map of levels")
+        };
         let payload = section_7[5..].to_vec();
         // Not by the functions that are timed: their instructions are counted wherever they are called from.
         let points = match &differences {
@@ -89,7 +103,39 @@ mod bench {
             Some(differences) => oracle::unpack_spatial(&template, differences, &payload),
         };
         let Outcome::Answer(points) = points else { panic!("not a good map") };
-        ComplexMap { template, differences, declared: section_5.declared(), payload, points }
+        ComplexMap { template, differences, declared: section_5.declared, payload, points }
+    }
+
+    /// The numbers of the real gusts, all of them: none is missing.
+    fn real_gust_numbers() -> Vec<u32> {
+        real!("gfs-gust-144x73").points.into_iter().map(number).collect()
+    }
+
+    /// The numbers of the cut-out of the continental United States that `desk day` packs, row by row: rows 253 to 573
+    /// and columns 115 to 705, none of whose points is missing. Every second row of the map goes from the last column to
+    /// the first.
+    fn real_conus_numbers() -> Vec<u32> {
+        const COLUMNS: usize = 1_073;
+        let points = real!("ndfd-conus-1073x689").points;
+        let row = |row: usize| {
+            let mut row_of_map = points[row * COLUMNS..(row + 1) * COLUMNS].to_vec();
+            if row % 2 == 1 {
+                row_of_map.reverse();
+            }
+            row_of_map.drain(114..705).map(number).collect::<Vec<u32>>()
+        };
+        (252..573).flat_map(row).collect()
+    }
+
+    /// A point that has a number to pack.
+    fn number(point: Point) -> u32 {
+        let Point::Number(number) = point else { panic!("a missing point") };
+        number.try_into().expect("a number to pack")
+    }
+
+    /// Packing beside the Rust, which is given one part in so many.
+    fn pack_beside(name: &str, numbers: Vec<u32>, lookahead: u32, parts: usize, options: &Options) {
+        bench(name, BesideTheRust::new(numbers, lookahead, parts), options);
     }
 
     /// A list that the Rust would take too long for, or that ours might.
@@ -107,6 +153,8 @@ mod bench {
         type Answer;
         /// What the other side answers.
         type Other;
+        /// What the limit does and nothing else. None unless said: no limit is timed then.
+        const LIMIT: Option<&'static str> = None;
 
         /// The C call, on the lent buffers.
         fn ours_lent(&mut self);
@@ -114,11 +162,17 @@ mod bench {
         fn ours_new(&self) -> Self::Answer;
         /// What ours is timed beside.
         fn other(&mut self) -> Self::Other;
+        /// The limit: a loop over what the call is lent that does only what no call can leave out.
+        fn limit(&mut self) {}
 
         /// What stands in the lent buffers.
         fn left(&self) -> Self::Answer;
         fn is_right(&self, answer: &Self::Answer) -> bool;
         fn other_is_right(&self, answer: &Self::Other) -> bool;
+        /// Whether the limit has done what it says.
+        fn limit_is_right(&self) -> bool {
+            true
+        }
         /// The points and the octets of the packed map.
         fn size(&self) -> (u32, usize);
         /// Which is the other side: the Rust on the same points, unless said.
@@ -199,9 +253,22 @@ mod bench {
         }
     }
 
+    /// The limit of unpacking: nine octets a point, the mark 0 and a number that is one more than the last, and nothing
+    /// read. Never inlined, so that a tool that counts instructions finds it by name.
+    #[inline(never)]
+    fn only_store(points: &mut [u8], step: i64) {
+        let mut number: i64 = 0;
+        for point in points.chunks_exact_mut(POINT_OCTETS) {
+            point[0] = 0;
+            point[1..].copy_from_slice(&number.to_be_bytes());
+            number = number.wrapping_add(step);
+        }
+    }
+
     impl Operation for Unpacking {
         type Answer = Vec<Point>;
         type Other = Vec<Point>;
+        const LIMIT: Option<&'static str> = Some("stores nine octets a point");
 
         fn ours_lent(&mut self) {
             let ComplexMap { ref template, ref differences, declared, ref payload, .. } = self.map;
@@ -232,6 +299,15 @@ mod bench {
                 Some(differences) => rust_unpack_spatial(template, differences, section),
             }
             .expect("a good map")
+        }
+
+        fn limit(&mut self) {
+            only_store(&mut self.points, black_box(1));
+            black_box(&mut self.points);
+        }
+
+        fn limit_is_right(&self) -> bool {
+            self.left().into_iter().eq((0..self.map.declared.into()).map(Point::Number))
         }
 
         fn left(&self) -> Vec<Point> {
@@ -306,18 +382,30 @@ mod bench {
     struct BesideTheRust {
         list: List,
         rust: usize,
+        /// What the limit found: the least number, and the greatest.
+        found: Option<(u32, u32)>,
     }
 
     impl BesideTheRust {
         /// The Rust is given one part in so many.
         fn new(numbers: Vec<u32>, lookahead: u32, parts: usize) -> Self {
-            Self { rust: numbers.len().div_ceil(parts), list: List::new(numbers, lookahead) }
+            Self { rust: numbers.len().div_ceil(parts), list: List::new(numbers, lookahead), found: None }
         }
+    }
+
+    /// The limit of packing: four octets a number are read, the least and the greatest are kept, and nothing is stored.
+    #[inline(never)]
+    fn only_read(numbers: &[u8]) -> (u32, u32) {
+        numbers.chunks_exact(NUMBER_OCTETS).fold((u32::MAX, 0), |(least, greatest), number| {
+            let number = u32::from_be_bytes(number.try_into().expect("four octets"));
+            (least.min(number), greatest.max(number))
+        })
     }
 
     impl Operation for BesideTheRust {
         type Answer = Packing;
         type Other = Packed;
+        const LIMIT: Option<&'static str> = Some("reads four octets a number, and keeps the least and the greatest");
 
         fn ours_lent(&mut self) {
             self.list.lent();
@@ -330,6 +418,15 @@ mod bench {
         fn other(&mut self) -> Packed {
             let numbers = black_box(&self.list.numbers[..self.rust]);
             rust_pack(numbers, self.list.lookahead as usize).expect("a good list")
+        }
+
+        fn limit(&mut self) {
+            self.found = Some(only_read(black_box(&self.list.octets)));
+        }
+
+        fn limit_is_right(&self) -> bool {
+            let numbers = self.list.numbers.iter().copied();
+            self.found == numbers.clone().min().zip(numbers.max())
         }
 
         fn left(&self) -> Packing {
@@ -410,11 +507,13 @@ mod bench {
         Timed,
         OnlyOurs,
         OnlyRust,
+        OnlyLimit,
     }
 
     pub fn usage() -> String {
         let names = OPERATIONS.map(|(name, _)| name).join(" | ");
-        format!("usage: bench [{names}] [--points N] [--only-ours | --only-rust], N from 1 to {MOST_POINTS}")
+        let only = "--only-ours | --only-rust | --only-limit";
+        format!("usage: bench [{names}] [--points N] [{only}], N from 1 to {MOST_POINTS}")
     }
 
     impl Options {
@@ -425,6 +524,7 @@ mod bench {
                     "--points" => options.points = words.next()?.parse().ok()?,
                     "--only-ours" if options.calls == Calls::Timed => options.calls = Calls::OnlyOurs,
                     "--only-rust" if options.calls == Calls::Timed => options.calls = Calls::OnlyRust,
+                    "--only-limit" if options.calls == Calls::Timed => options.calls = Calls::OnlyLimit,
                     name if OPERATIONS.iter().any(|(known, _)| *known == name) => options.operation = Some(word),
                     _ => return None,
                 }
@@ -441,21 +541,26 @@ mod bench {
         }
     }
 
-    fn bench(name: &str, mut operation: impl Operation, options: &Options) {
+    fn bench<O: Operation>(name: &str, mut operation: O, options: &Options) {
         let calls = &options.calls;
-        if *calls != Calls::OnlyRust {
+        if matches!(calls, Calls::Timed | Calls::OnlyOurs) {
             operation.ours_lent();
             assert!(operation.is_right(&operation.left()), "{name}: ours is wrong");
         }
-        if *calls != Calls::OnlyOurs {
+        if matches!(calls, Calls::Timed | Calls::OnlyRust) {
             let other = operation.other();
             assert!(operation.other_is_right(&other), "{name}: what ours is timed beside is wrong");
         }
+        if matches!(calls, Calls::Timed | Calls::OnlyLimit) && O::LIMIT.is_some() {
+            operation.limit();
+            assert!(operation.limit_is_right(), "{name}: the limit is wrong");
+        }
         if *calls != Calls::Timed {
             let points = match (calls, operation.beside()) {
-                (Calls::OnlyOurs, _) => operation.size().0,
-                (_, Beside::Rust(points)) => points,
-                (_, Beside::AtEight(_)) => panic!("{name}: the Rust is left out"),
+                (Calls::OnlyRust, Beside::Rust(points)) => points,
+                (Calls::OnlyRust, Beside::AtEight(_)) => panic!("{name}: the Rust is left out"),
+                (Calls::OnlyLimit, _) if O::LIMIT.is_none() => panic!("{name}: no limit"),
+                _ => operation.size().0,
             };
             println!("{name}: one call on {points} points");
             return;
@@ -464,21 +569,26 @@ mod bench {
         time(name, &mut operation);
     }
 
-    /// How often each form of ours is timed. The other side is timed after each of them, so twice as often.
+    /// How often each form of ours is timed, and the limit. The other side is timed after each of them, so that each
+    /// comes after the same.
     const REPETITIONS: usize = 51;
 
     /// The C library keeps what is freed once a block of this size was (glibc: the threshold follows the largest block,
     /// up to 32 MiB). Otherwise a call would pay for pages that the one before it gave back to the system.
     const KEPT: usize = 30 << 20;
 
-    fn time(name: &str, operation: &mut impl Operation) {
+    fn time<O: Operation>(name: &str, operation: &mut O) {
         drop(black_box(vec![1_u8; KEPT]));
-        let (mut lent, mut new, mut other) = (Times::default(), Times::default(), Times::default());
+        let [mut lent, mut new, mut other, mut limit] = [const { Times(Vec::new()) }; 4];
         for _ in 0..REPETITIONS {
             lent.add(|| operation.ours_lent());
             other.add(|| operation.other());
             new.add(|| operation.ours_new());
             other.add(|| operation.other());
+            if O::LIMIT.is_some() {
+                limit.add(|| operation.limit());
+                other.add(|| operation.other());
+            }
         }
         let (points, octets) = operation.size();
         println!("{name}: {points} points in {octets} octets, nanoseconds a point");
@@ -491,19 +601,30 @@ mod bench {
                     println!("  the Rust packs the first {on} alone: all of them would take it too long");
                 }
                 println!("  ours / Rust, by the medians:");
-                println!("    {:.2} new list: both allocate", new / rust);
-                println!("    {:.2} lent buffer: the Rust alone allocates", lent / rust);
+                println!("    {} new list: both allocate", ratio(new, rust));
+                println!("    {} lent buffer: the Rust alone allocates", ratio(lent, rust));
             }
             Beside::AtEight(on) => {
                 let eight = other.report("ours, map, at 8", on);
                 println!("  the Rust is left out: at the greatest lookahead it would take too long");
-                println!("  ours / ours on the map at lookahead 8, lent buffers, by the medians: {:.2}", lent / eight);
+                let ratio = ratio(lent, eight);
+                println!("  ours / ours on the map at lookahead 8, lent buffers, by the medians: {ratio}");
             }
+        }
+        if let Some(does) = O::LIMIT {
+            println!("  the limit is a loop that only {does}");
+            let limit = limit.report("limit", points);
+            println!("  ours / limit, lent buffer, by the medians: {}", ratio(lent, limit));
         }
     }
 
+    /// Two digits after the point, or four where two would say little.
+    fn ratio(one: f64, other: f64) -> String {
+        let ratio = one / other;
+        if ratio < 0.095 { format!("{ratio:.4}") } else { format!("{ratio:.2}") }
+    }
+
     /// How long each call took, in nanoseconds.
-    #[derive(Default)]
     struct Times(Vec<u128>);
 
     impl Times {
