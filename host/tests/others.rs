@@ -26,12 +26,7 @@ fn hold(template: u32, count: usize, unpack: fn(&Map) -> Result<Vec<Point>, Refu
 }
 
 fn input(map: &Map) -> Input {
-    Input {
-        template: map.section5.template(),
-        differences: (map.template == 3).then(|| map.section5.differences()),
-        declared: map.section5.declared(),
-        payload: map.payload.clone(),
-    }
+    map.section5.input(&map.payload)
 }
 
 #[test]

@@ -73,12 +73,7 @@ impl Map {
         let (header, payload) = self.section7.split_at(5);
         assert_eq!(header, [&(self.section7.len() as u32).to_be_bytes()[..], &[7]].concat(), "{}", self.name);
         assert_eq!(section5.template_number(), self.template, "{}", self.name);
-        Input {
-            template: section5.template(),
-            differences: (self.template == 3).then(|| section5.differences()),
-            declared: section5.declared(),
-            payload: payload.to_vec(),
-        }
+        section5.input(payload)
     }
 }
 
