@@ -26,7 +26,7 @@ fn hold(template: u32, count: usize, unpack: fn(&Map) -> Result<Vec<Point>, Refu
 }
 
 fn input(map: &Map) -> Input {
-    map.section5.input(&map.payload)
+    Input::new(&map.section5, &map.payload)
 }
 
 #[test]

@@ -73,7 +73,7 @@ impl Map {
         let (header, payload) = self.section7.split_at(5);
         assert_eq!(header, [&(self.section7.len() as u32).to_be_bytes()[..], &[7]].concat(), "{}", self.name);
         assert_eq!(section5.template_number(), self.template, "{}", self.name);
-        section5.input(payload)
+        Input::new(&section5, payload)
     }
 }
 

@@ -165,7 +165,8 @@ impl Pack {
             }));
         }
         let is_small = |map: &others::Map| map.template != 200 && map.refusal.is_none();
-        let others = others::maps().into_iter().filter(is_small).map(|map| map.section5.input(&map.payload));
+        let others =
+            others::maps().into_iter().filter(is_small).map(|map| model::Input::new(&map.section5, &map.payload));
         lists.extend(others.filter(|map| map.declared <= 1_000).map(|map| {
             let mut numbers = numbers_of(&map);
             numbers.truncate(60);

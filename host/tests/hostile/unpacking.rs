@@ -194,7 +194,7 @@ fn short_maps(spatial: bool) -> Vec<Map> {
         maps.extend((0..150).map(|_| part(&mut chance, real, &descriptors, &groups)));
     }
     let is_small = |map: &others::Map| map.template != 200 && map.refusal.is_none() && map.payload.len() <= 100;
-    let others = others::maps().into_iter().filter(is_small).map(|map| map.section5.input(&map.payload));
+    let others = others::maps().into_iter().filter(is_small).map(|map| Map::new(&map.section5, &map.payload));
     maps.extend(others.filter(|map| map.declared <= 1_000));
     for points in 1..=40 {
         let made = [gusts(points), gust_differences(1, points), gust_differences(2, points)];
@@ -238,7 +238,7 @@ fn cases() -> Vec<Map> {
 /// The three maps of samples/, whole.
 pub fn real_maps() -> [Map; 3] {
     let map = |section5: &[u8], section7: &[u8]| {
-        Section5::from_octets(section5.to_vec()).expect("a whole Section 5").input(&section7[5..])
+        Map::new(&Section5::from_octets(section5.to_vec()).expect("a whole Section 5"), &section7[5..])
     };
     [
         map(
@@ -256,21 +256,24 @@ pub fn real_maps() -> [Map; 3] {
     ]
 }
 
-/// Some groups of a map that follow one another, up to about a hundred points, with the map's descriptors before them.
+/// Some groups of a map that follow one another, up to a hundred points, with the map's descriptors before them.
 fn part(chance: &mut Chance, whole: &Map, descriptors: &[u64], groups: &[Written]) -> Map {
     let first = chance.below(groups.len());
-    let mut groups: Vec<Written> = groups[first..].iter().take(1 + chance.below(6)).cloned().collect();
-    let mut left = 100_usize;
-    for group in &groups {
-        left = left.saturating_sub(group.values.len());
+    let mut left = 100;
+    let mut part: Vec<Written> = Vec::new();
+    for group in groups[first..].iter().take(1 + chance.below(6)) {
+        // A group that is cut is the last, whose length is the template's own number.
+        let mut group = group.clone();
+        group.values.truncate(left);
+        left -= group.values.len();
+        part.push(group);
+        if left == 0 {
+            break;
+        }
     }
-    if left == 0 {
-        groups.truncate(1);
-        groups[0].values.truncate(100);
-    }
-    let last_length = groups.last().map_or(0, |group| group.values.len()) as u32;
-    let template = Template { groups: groups.len() as u32, last_length, ..whole.template };
-    let payload = payload(&template, whole.differences.as_ref(), descriptors, &groups, 0);
+    let last_length = part[part.len() - 1].values.len() as u32;
+    let template = Template { groups: part.len() as u32, last_length, ..whole.template };
+    let payload = payload(&template, whole.differences.as_ref(), descriptors, &part, 0);
     Map { template, payload, ..*whole }
 }
 

@@ -7,6 +7,7 @@
 pub mod packing;
 pub mod run_length;
 
+use super::section5::Section5;
 use cleatmow::maps::Numbers;
 use cleatmow::{Differences, Point, Refusal, Template};
 
@@ -20,6 +21,16 @@ pub struct Input {
 }
 
 impl Input {
+    /// The numbers of a Section 5 of template 5.2 or 5.3, and a payload.
+    pub fn new(section5: &Section5, payload: &[u8]) -> Input {
+        Input {
+            template: section5.template(),
+            differences: (section5.template_number() == 3).then(|| section5.differences()),
+            declared: section5.declared(),
+            payload: payload.to_vec(),
+        }
+    }
+
     /// What the call answers, and leaves in the octets.
     pub fn call(&self, points: &mut [u8]) -> u32 {
         let called = match &self.differences {

@@ -1,6 +1,5 @@
 //! Section 5 of a message: the declared count and the template numbers.
 
-use super::model::Input;
 use cleatmow::{Differences, Template};
 use std::ops::RangeInclusive;
 
@@ -60,15 +59,5 @@ impl Section5 {
     /// The two numbers that template 5.3 has besides.
     pub fn differences(&self) -> Differences {
         Differences { order: self.number(48..=48) as u8, descriptor_octets: self.number(49..=49) as u8 }
-    }
-
-    /// What a call for template 5.2 or 5.3 is given: these numbers, and a payload.
-    pub fn input(&self, payload: &[u8]) -> Input {
-        Input {
-            template: self.template(),
-            differences: (self.template_number() == 3).then(|| self.differences()),
-            declared: self.declared(),
-            payload: payload.to_vec(),
-        }
     }
 }
