@@ -71,12 +71,17 @@ fn reported(scale: u64) -> ([tally::Tally; 4], bool) {
     (tallies, agreed)
 }
 
-/// The same with so many times as many inputs, and then the tables for docs/DIFFERENCES.md.
+/// The same with so many times as many inputs, and then the tables for docs/DIFFERENCES.md, in which nothing may be
+/// missing.
 #[cfg(have_text)]
 fn at_scale(scale: u64) -> bool {
     let (tallies, agreed) = reported(scale);
     print!("\n{}", summary::tables(scale, &tallies));
-    agreed
+    let never = summary::never_reached(&tallies);
+    if !never.is_empty() {
+        print!("\nNEVER REACHED:\n{never}");
+    }
+    agreed && never.is_empty()
 }
 
 #[cfg(have_text)]

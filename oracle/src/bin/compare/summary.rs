@@ -7,12 +7,22 @@ use crate::tally::Tally;
 /// The operations that have no C call: the frozen rows alone compare them.
 const WITHOUT_A_CALL: [(&str, u8); 2] = [("bit reader", 1), ("bit writer", 2)];
 
-/// Those that have one, by the tally's name: the name in the tables, and the kind of the frozen rows.
-const WITH_A_CALL: [(&str, &str, u8); 4] = [
-    ("run_length", "run-length", 3),
-    ("unpack_complex", "unpacking, 5.2", 4),
-    ("unpack_spatial", "unpacking, 5.3", 5),
-    ("pack", "packing", 6),
+/// One that has a C call.
+struct Operation {
+    /// As the tally has it.
+    call: &'static str,
+    name: &'static str,
+    /// The kind of its frozen rows.
+    kind: u8,
+    /// The refusals that both have.
+    refusals: &'static [u32],
+}
+
+const WITH_A_CALL: [Operation; 4] = [
+    Operation { call: "run_length", name: "run-length", kind: 3, refusals: &[9, 11] },
+    Operation { call: "unpack_complex", name: "unpacking, 5.2", kind: 4, refusals: &[1, 2, 5, 6, 7, 8] },
+    Operation { call: "unpack_spatial", name: "unpacking, 5.3", kind: 5, refusals: &[1, 2, 3, 4, 5, 6, 7, 8] },
+    Operation { call: "pack", name: "packing", kind: 6, refusals: &[] },
 ];
 
 /// Why the Rust is no judge, and the numbers of docs/DIFFERENCES.md that say more.
@@ -40,9 +50,9 @@ const REASONS: [(&str, &str); 20] = [
 ];
 
 pub fn tables(scale: u64, tallies: &[Tally]) -> String {
-    let seeds: Vec<String> = tallies.iter().map(|tally| format!("{} {}", named(tally).0, tally.seed)).collect();
+    let seeds: Vec<String> = tallies.iter().map(|tally| format!("{} ({})", tally.seed, of(tally).name)).collect();
     [
-        format!("By chance {scale} times as many inputs as in `make compare`. Seeds: {}.\n", seeds.join("; ")),
+        format!("By chance {scale} times as many inputs as in `make compare`. Seeds: {}.\n", seeds.join(", ")),
         compared(tallies),
         refused(tallies),
         outside(tallies),
@@ -50,11 +60,19 @@ pub fn tables(scale: u64, tallies: &[Tally]) -> String {
     .join("\n")
 }
 
-/// The name of a tally's operation, and the kind of its frozen rows.
-fn named(tally: &Tally) -> (&'static str, u8) {
-    let (_, name, kind) =
-        WITH_A_CALL.into_iter().find(|(call, ..)| *call == tally.operation).expect("an operation of the table");
-    (name, kind)
+/// The refusals and the reasons that no input had, each a line.
+pub fn never_reached(tallies: &[Tally]) -> String {
+    let refusals = tallies.iter().flat_map(|tally| {
+        let missing = of(tally).refusals.iter().filter(|number| !tally.refused.contains_key(number));
+        missing.map(|number| format!("{}, refused with {number}\n", tally.operation))
+    });
+    let reached = |reason: &str| tallies.iter().any(|tally| tally.outside.contains_key(reason));
+    let reasons = REASONS.iter().filter(|(reason, _)| !reached(reason));
+    refusals.chain(reasons.map(|(reason, _)| format!("outside, {reason}\n"))).collect()
+}
+
+fn of(tally: &Tally) -> Operation {
+    WITH_A_CALL.into_iter().find(|operation| operation.call == tally.operation).expect("an operation of the table")
 }
 
 fn compared(tallies: &[Tally]) -> String {
@@ -74,7 +92,7 @@ fn compared(tallies: &[Tally]) -> String {
         table += &frozen_row(name, kind, " alone: there is no C call");
     }
     for tally in tallies {
-        let (name, kind) = named(tally);
+        let Operation { name, kind, .. } = of(tally);
         let (accepted, refused) = (tally.accepted(), tally.refused.values().sum());
         let live = format!("{}, live", grouped(accepted + refused));
         table += &frozen_row(name, kind, "");
@@ -110,7 +128,7 @@ fn outside(tallies: &[Tally]) -> String {
 /// The head of a table with a column for each operation, and one more where it has a name.
 fn head(first: &str, tallies: &[Tally], last: &str) -> String {
     let mut names = vec![first];
-    names.extend(tallies.iter().map(|tally| named(tally).0));
+    names.extend(tallies.iter().map(|tally| of(tally).name));
     names.extend((!last.is_empty()).then_some(last));
     format!("| {} |\n|{}\n", names.join(" | "), "---|".repeat(names.len()))
 }
