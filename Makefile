@@ -4,7 +4,7 @@ export RT_JOBS := $(shell nproc)
 CARGO := cargo --offline --quiet
 
 .NOTPARALLEL:
-.PHONY: desk test host compare freeze bench check fmt clean
+.PHONY: desk test host compare hostile oracle freeze bench check fmt clean
 
 # The main job: the archive and the host, and with them a day at the desk on the maps of samples/.
 desk:
@@ -29,6 +29,23 @@ host:
 compare:
 	@cd oracle && cargo fmt --check && $(CARGO) test && $(CARGO) test --release --test differences
 	@cd oracle && $(CARGO) run --bin compare
+
+# Hostile input, in minutes: a million damaged copies of good inputs through each C call, with guard octets about every
+# buffer; then fewer, in blocks of their own size, under valgrind, where it is there. A few thousand are part of `host`.
+MEMCHECK := ["valgrind", "--quiet", "--error-exitcode=1", "--redzone-size=256"]
+hostile:
+	@cd host && $(CARGO) test --release --test hostile -- --ignored --exact --nocapture a_million_of_each
+	@if command -v valgrind >/dev/null; then \
+		cd host && $(CARGO) test --release --test hostile --config 'target."cfg(all())".runner = $(MEMCHECK)' \
+			-- --ignored --exact --nocapture in_blocks_of_their_own && \
+		echo "Under valgrind: no octet outside was read or written."; \
+	else \
+		echo "Not run under valgrind: it is not installed."; \
+	fi
+
+# The live comparison at scale, in minutes: millions of inputs for each operation, and the tables of docs/DIFFERENCES.md.
+oracle:
+	@cd oracle && $(CARGO) run --bin compare -- at_scale
 
 # The oracle's answers that the program `vectors` replays.
 freeze:

@@ -1,84 +1,20 @@
-//! Run-length through the C call, against document 01: its cases, its limits, lent buffers, and a plain reference.
+//! Run-length through the C call, against document 01: its cases, its limits, lent buffers, and a plain model.
 
 mod support;
 
 use cleatmow::maps::{rain, Numbers};
 use cleatmow::{run_length, run_length_into, Refusal, LEVEL_OCTETS, MOST_POINTS};
 use support::guarded;
+use support::model::run_length::{answer, coded, good, points, run, runs, Input};
 
-/// What a call is given beside the lent buffer: b, M, the declared count and the payload.
-type Input<'a> = (u8, u16, u32, &'a [u8]);
-
-/// The runs of a payload, each a level and its length, or refusal 5 or 11. Written as document 01 reads, without care
-/// for speed. Weights and lengths stop at the greatest number of 128 bits, far above any count that is accepted.
-fn runs(bits: u8, max_level: u16, payload: &[u8]) -> Result<Vec<(u16, u128)>, u32> {
-    if !(1..=15).contains(&bits) || u32::from(max_level) > (1 << bits) - 1 {
-        return Err(5);
-    }
-    let string: Vec<u16> =
-        payload.iter().flat_map(|octet| (0..8).rev().map(move |place| u16::from(octet >> place & 1))).collect();
-    let base = (1_u128 << bits) - 1 - u128::from(max_level);
-    let mut runs: Vec<(u16, u128)> = Vec::new();
-    let mut weight = 1_u128;
-    for code in string.chunks_exact(usize::from(bits)) {
-        let code = code.iter().fold(0, |code, bit| 2 * code + bit);
-        if code <= max_level {
-            runs.push((code, 1));
-            weight = 1;
-        } else {
-            let (_, length) = runs.last_mut().ok_or(11_u32)?;
-            let more = u128::from(code - max_level - 1).saturating_mul(weight);
-            *length = length.saturating_add(more);
-            weight = weight.saturating_mul(base);
-        }
-    }
-    Ok(runs)
-}
-
-fn points(runs: &[(u16, u128)]) -> u128 {
-    runs.iter().fold(0, |sum, (_, length)| sum.saturating_add(*length))
-}
-
-/// The answer, and the buffer as it is left.
-fn reference((bits, max_level, declared, payload): Input, lent: &[u8]) -> (u32, Vec<u8>) {
-    let mut left = lent.to_vec();
-    let runs = match runs(bits, max_level, payload) {
-        Ok(runs) => runs,
-        Err(number) => return (number, left),
-    };
-    if points(&runs) != u128::from(declared) || declared > 4_194_304 {
-        return (9, left);
-    }
-    if lent.len() / 2 < declared as usize {
-        return (10, left);
-    }
-    let levels = runs.iter().flat_map(|(level, length)| vec![*level; *length as usize]);
-    for (place, level) in left.chunks_exact_mut(2).zip(levels) {
-        place.copy_from_slice(&level.to_be_bytes());
-    }
-    (0, left)
-}
-
-/// Holds the call on `len` lent octets to the reference.
+/// Holds the call on `len` lent octets to the model.
 fn compare(input: Input, len: usize) -> u32 {
     let (bits, max_level, declared, payload) = input;
     let call = |lent: &mut [u8]| {
         run_length_into(bits, max_level, declared, payload, lent).map_or_else(Refusal::number, |()| 0)
     };
     let shown = format_args!("b {bits}, M {max_level}, declared {declared}, {payload:02X?}");
-    guarded::compare(shown, len, |lent| reference(input, lent), call).0
-}
-
-/// Codes of `bits` bits end to end, and zero bits to the end of the last octet.
-fn coded(bits: u8, codes: &[u16]) -> Vec<u8> {
-    let mut octets = vec![0; (codes.len() * usize::from(bits)).div_ceil(8)];
-    for (i, code) in codes.iter().enumerate() {
-        for bit in 0..usize::from(bits) {
-            let place = i * usize::from(bits) + bit;
-            octets[place / 8] |= ((code >> (usize::from(bits) - 1 - bit) & 1) as u8) << (7 - place % 8);
-        }
-    }
-    octets
+    guarded::compare(shown, len, |lent| answer(input, lent), call).0
 }
 
 /// The same with zero digits up to the end of an octet. They add no point, where zero bits would be a level.
@@ -86,18 +22,6 @@ fn whole(bits: u8, max_level: u16, codes: &[u16]) -> Vec<u8> {
     let mut codes = codes.to_vec();
     codes.resize(codes.len().next_multiple_of(8), max_level + 1);
     coded(bits, &codes)
-}
-
-/// The codes of one run: the level, and the run less one in digits of the base, least first. The base is above 1.
-fn run(bits: u8, max_level: u16, level: u16, run: u32) -> Vec<u16> {
-    let base = (1 << bits) - 1 - u32::from(max_level);
-    let mut codes = vec![level];
-    let mut more = run - 1;
-    while more > 0 {
-        codes.push((u32::from(max_level) + 1 + more % base) as u16);
-        more /= base;
-    }
-    codes
 }
 
 #[test]
@@ -282,21 +206,8 @@ fn one_octet_in_full() {
     }
 }
 
-/// A map with runs, well coded, for any base.
-fn good(numbers: &mut Numbers, bits: u8, max_level: u16) -> Vec<u8> {
-    let base = (1_u32 << bits) - 1 - u32::from(max_level);
-    let mut codes = Vec::new();
-    for _ in 0..1 + numbers.below(6) {
-        let level = numbers.below(u64::from(max_level) + 1) as u16;
-        let longest = 1 << numbers.below(if base < 2 { 1 } else { 7 });
-        let length = 1 + numbers.below(longest) as u32;
-        codes.extend(run(bits, max_level, level, length));
-    }
-    coded(bits, &codes)
-}
-
 #[test]
-fn equal_to_the_reference_on_inputs_by_chance() {
+fn equal_to_the_model_on_inputs_by_chance() {
     const INPUTS: u32 = 300_000;
     let mut numbers = Numbers::new(1);
     let mut answers = [0_u32; 14];

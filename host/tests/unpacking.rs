@@ -6,7 +6,7 @@ mod support;
 use cleatmow::maps::Numbers;
 use cleatmow::{points_in, Differences, Point, Refusal, Template, MOST_POINTS, POINT_OCTETS};
 use support::guarded;
-use support::model::{self, field, octets_of, payload, template, Input, Written};
+use support::model::{self, field, good, number_of, octets_of, payload, template, Input, Written};
 
 /// An input under 5.2, with its declared count.
 fn complex(template: Template, declared: u32, payload: &[u8]) -> Input {
@@ -830,60 +830,6 @@ fn small_templates_in_full() {
     }
     println!("answers by number: {answers:?}");
     assert!(answers[0] > 100_000 && answers[7] > 100_000, "{answers:?}");
-}
-
-/// A number of so many bits: any, or close to either end, where missing points are.
-fn number_of(chance: &mut Numbers, bits: u64) -> u64 {
-    let greatest = (1 << bits) - 1;
-    match chance.below(8) {
-        0 => greatest,
-        1 => greatest.saturating_sub(1),
-        2 => 0,
-        _ => chance.below(greatest + 1),
-    }
-}
-
-/// A map of a few groups that is well packed, under either template.
-fn good(chance: &mut Numbers) -> Input {
-    let count = 1 + chance.below(7);
-    let number_width = chance.below(32);
-    // Groups of up to 31 bits: of one width, of a few, or of any.
-    let width_reference = chance.below(32);
-    let width_bits = [0, 1, 2, 3, 5, 32][chance.below(6) as usize];
-    let most_code = ((1 << width_bits) - 1).min(31 - width_reference);
-    let (length_reference, increment) = (chance.below(5), [0, 1, 2, 3, 7, 255][chance.below(6) as usize]);
-    let length_bits = [0, 1, 2, 4, 11, 32][chance.below(6) as usize];
-    let last = chance.below(12);
-    let differences = (chance.below(2) == 0)
-        .then(|| Differences { order: 1 + chance.below(2) as u8, descriptor_octets: 1 + chance.below(4) as u8 });
-    let lengths = (length_reference as u32, increment as u8, last as u32, length_bits as u8);
-    let template = Template {
-        missing: chance.below(3) as u8,
-        ..template(number_width as u8, count as u32, (width_reference as u8, width_bits as u8), lengths)
-    };
-    let groups: Vec<Written> = (1..=count)
-        .map(|place| {
-            let width_code = chance.below(most_code + 1);
-            // Where the code counts, so that there are up to 12 points more; where it does not, any.
-            let counts = place < count && increment > 0;
-            let most = if counts { 12 / increment } else { u64::MAX }.min((1 << length_bits) - 1);
-            let length_code = chance.below(most + 1);
-            let length = if place < count { length_code * increment + length_reference } else { last };
-            let width = width_code + width_reference;
-            let values = (0..length).map(|_| number_of(chance, width)).collect();
-            Written { reference: number_of(chance, number_width), width_code, length_code, values }
-        })
-        .collect();
-    let mut descriptors = Vec::new();
-    if let Some(Differences { order, descriptor_octets }) = differences {
-        let bits = 8 * u64::from(descriptor_octets);
-        descriptors.extend((0..order).map(|_| number_of(chance, bits)));
-        let sign = chance.below(2) << (bits - 1);
-        descriptors.push(sign | number_of(chance, bits - 1));
-    }
-    let pad = chance.below(2) as u8;
-    let payload = payload(&template, differences.as_ref(), &descriptors, &groups, pad);
-    Input { template, differences, declared: 0, payload }
 }
 
 /// Changes the payload: flips a bit, cuts the end off, or adds an octet. Or changes a template number.

@@ -37,6 +37,7 @@ mod doors {
     mod encoder_complex;
 }
 
+pub mod bit_fields;
 pub mod dice;
 pub mod packing;
 pub mod runs;
@@ -86,6 +87,11 @@ mod doors_to_the_text {
     /// At most `count` numbers: where the octets end earlier, so does the Rust.
     pub fn read_bits(octets: &[u8], start: usize, width: usize, count: usize) -> Outcome<Vec<u32>> {
         caught(|| Ok(decoder::door::read_bits(octets, start, width, count)))
+    }
+
+    /// The Rust's iterator by itself, which takes no count: all that it gives, but at most so many.
+    pub fn read_bits_on(octets: &[u8], start: usize, width: usize, most: usize) -> Outcome<Vec<u32>> {
+        caught(|| Ok(decoder::door::read_bits_on(octets, start, width, most)))
     }
 
     /// Answers the span as the Rust counts it, which is without the starting bit.

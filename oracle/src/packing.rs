@@ -1,8 +1,8 @@
 //! Document 01's grouping and packing, written plainly for the programs here: where the Rust is no judge, ours is held
 //! to this. And what makes lists.
 //!
-//! `host/tests/packing.rs` says the same. The two are written apart on purpose, each from document 01 and neither from
-//! the other, as two witnesses: a slip of one should not be a slip of both.
+//! `host/tests/support/model/packing.rs` says the same. The two are written apart on purpose, each from document 01 and
+//! neither from the other, as two witnesses: a slip of one should not be a slip of both.
 
 use cleatmow::Packing;
 

@@ -1,14 +1,130 @@
-//! docs/DIFFERENCES.md, "Unpacking under 5.2 and 5.3" and "Packing": each number with its input, what document 01
-//! answers and what the Rust makes of it. It fails if either changes. The Rust's overflows are checked in the profile
-//! `dev`, and not with `cargo test --release`: both columns are held.
+//! docs/DIFFERENCES.md: each number with its input, what document 01 answers and what the Rust makes of it. It fails if
+//! either changes. The Rust's overflows are checked in the profile `dev`, and not with `cargo test --release`: both
+//! columns are held. 14, the level map, is no matter of an input.
 #![cfg(have_text)]
 
-use cleatmow::{Packing, SUMMARY_OCTETS, numbers_as_octets, pack, pack_into, unpack_complex_into, unpack_spatial_into};
+use cleatmow::{
+    Packing, SUMMARY_OCTETS, numbers_as_octets, pack, pack_into, run_length, run_length_into, unpack_complex_into,
+    unpack_spatial_into,
+};
 use oracle::Outcome::{self, Answer, Panicked, Refused};
 use oracle::Point::{self, Missing1, Number};
+use oracle::bit_fields;
 use oracle::packing::{coded, is_refused};
 use oracle::unpacking::{Input, octets_of, template};
 use oracle::{Differences, Template};
+
+/// What the Rust makes of an input in this profile: with overflow checks, or without.
+fn of_profile<T>(checked: T, unchecked: T) -> T {
+    if cfg!(debug_assertions) { checked } else { unchecked }
+}
+
+/// The bit reader. Ours has no C call: document 01's column is held as `bit_fields` has it. The Rust's iterator takes no
+/// count, so it is asked for more than there is.
+#[test]
+fn each_difference_of_the_bit_reader_is_as_it_is_written() {
+    const MANY: usize = 100;
+    // Octets, starting bit, width and count.
+    type Read = (&'static [u8], usize, usize, usize);
+    let hold = |number: &str, input: Read, document: Result<Vec<u32>, u32>, rust: Outcome<Vec<u32>>| {
+        let (octets, start, width, count) = input;
+        assert_eq!(bit_fields::read(octets, start, width, count), document, "{number}: document 01");
+        assert_eq!(oracle::read_bits_on(octets, start, width, MANY), rust, "{number}: the Rust");
+    };
+    hold("5", (&[], 0, 1, 1), Err(7), Answer(vec![]));
+    hold("5, after one number", (&[0xff], 0, 5, 2), Err(7), Answer(vec![31]));
+    hold("6", (&[0], 0, 1, 0), Ok(vec![]), Answer(vec![0; 8]));
+    hold("6, from the padding", (&[0xba, 0xf0], 0, 3, 4), Ok(vec![5, 6, 5, 7]), Answer(vec![5, 6, 5, 7, 0]));
+    hold("7", (&[], 0, 33, 0), Err(5), Answer(vec![]));
+    hold("7, a bit is lost", (&[0x80, 0, 0, 0, 0x80], 0, 33, 1), Err(5), Answer(vec![1]));
+    let unchecked = [vec![256], vec![0; 7]].concat();
+    hold("7, starting bit", (&[0x80, 0], 8, 1, 1), Err(5), of_profile(Panicked, Answer(unchecked)));
+    hold("8", (&[0], 0, 0, 1), Ok(vec![0]), Answer(vec![0; MANY]));
+    hold("8, of no octet", (&[], 0, 0, 1), Ok(vec![0]), Answer(vec![]));
+    // The Rust's `BitStream` is asked for a count, and heeds it at width 0.
+    assert_eq!(oracle::read_bits(&[], 0, 0, 1), Answer(vec![0]), "8: the Rust's BitStream");
+}
+
+/// The bit writer, likewise.
+#[test]
+fn each_difference_of_the_bit_writer_is_as_it_is_written() {
+    // Numbers, starting bit, width and the octets before; and an answer with the octets after.
+    type Write = (&'static [u32], usize, usize, &'static [u8]);
+    type Left<Answer> = (Answer, &'static [u8]);
+    let hold = |number: &str, input: Write, document: Left<Result<usize, u32>>, rust: Left<Outcome<usize>>| {
+        let (numbers, start, width, before) = input;
+        let mut octets = before.to_vec();
+        let answer = bit_fields::write(numbers, start, width, &mut octets);
+        assert_eq!((answer, &octets[..]), document, "{number}: document 01");
+        let mut octets = before.to_vec();
+        let answer = oracle::write_bits(numbers, start, width, &mut octets);
+        assert_eq!((answer, &octets[..]), rust, "{number}: the Rust");
+    };
+    hold("1", (&[3], 7, 2, &[0]), (Err(10), &[0]), (Panicked, &[1]));
+    hold("1, with room", (&[3], 7, 2, &[0, 0]), (Ok(2), &[1, 0x80]), (Answer(1), &[1, 0x80]));
+    hold("2", (&[0], 1, 1, &[0x40]), (Ok(1), &[0]), (Answer(1), &[0x40]));
+    hold("2, the rest", (&[0], 1, 1, &[0x20]), (Ok(1), &[0]), (Answer(1), &[0x20]));
+    hold("2, not from bit 0", (&[0], 0, 1, &[0x60]), (Ok(1), &[0]), (Answer(1), &[0]));
+    hold("3", (&[2], 1, 1, &[0]), (Err(13), &[0]), (Answer(1), &[0x80]));
+    hold("3, dropped bits", (&[9], 0, 3, &[0]), (Err(13), &[0]), (Answer(1), &[0x20]));
+    hold("3, the number before", (&[0, 2], 0, 1, &[0]), (Err(13), &[0]), (Answer(1), &[0x80]));
+    hold("3, a whole octet", (&[256], 0, 8, &[0]), (Err(13), &[0]), (Answer(1), &[0]));
+    hold("4", (&[], 0, 33, &[]), (Err(5), &[]), (Answer(0), &[]));
+    hold("4, a number", (&[1], 0, 33, &[0; 5]), (Err(5), &[0; 5]), (Answer(5), &[0, 0, 0, 0, 0x80]));
+    let rust: Left<Outcome<usize>> = of_profile((Panicked, &[0; 5]), (Answer(5), &[1, 0, 0, 0, 1]));
+    hold("4, its shift", (&[1], 7, 33, &[0; 5]), (Err(5), &[0; 5]), rust);
+    hold("4, starting bit 8", (&[1], 8, 1, &[0, 0]), (Err(5), &[0, 0]), (Answer(1), &[0, 0x80]));
+    let answer = of_profile(Panicked, Answer(1));
+    hold("4, starting bit 9", (&[1], 9, 1, &[0, 0]), (Err(5), &[0, 0]), (answer, &[0, 0]));
+}
+
+/// Where the two meet, which the frozen rows have: document 01 as `bit_fields` has it gives the Rust's answers.
+#[test]
+fn bit_fields_are_the_frozen_ones() {
+    let rows = include_bytes!("../../crates/vectors/stdin").chunks_exact(64);
+    let mut held = 0;
+    for row in rows.take_while(|row| row[0] < 3) {
+        let [kind, start, width, count] = [0, 1, 2, 3].map(|place| usize::from(row[place]));
+        let numbers: Vec<u32> = row[24..24 + 4 * count]
+            .chunks_exact(4)
+            .map(|number| u32::from_be_bytes(number.try_into().expect("four octets")))
+            .collect();
+        match kind {
+            1 => assert_eq!(bit_fields::read(&row[4..24], start, width, count), Ok(numbers)),
+            _ => {
+                let mut octets = [0; 20];
+                assert!(bit_fields::write(&numbers, start, width, &mut octets).is_ok());
+                assert_eq!(octets, row[4..24]);
+            }
+        }
+        held += 1;
+    }
+    assert_eq!(held, 2_640 + 2_560);
+}
+
+#[test]
+fn each_difference_of_run_length_is_as_it_is_written() {
+    // b, M, the declared count and the payload.
+    type Input<'a> = (u8, u16, usize, &'a [u8]);
+    let hold = |number: &str, input: Input, document: Result<Vec<u16>, u32>, rust: Outcome<Vec<u16>>| {
+        let (bits, max_level, declared, payload) = input;
+        let ours = run_length(bits, max_level, declared as u32, payload).map_err(|refusal| refusal.number());
+        assert!(ours == document, "{number}: document 01");
+        assert!(oracle::run_length(bits, max_level, declared, payload) == rust, "{number}: the Rust");
+    };
+    hold("9", (16, 0, 1, &[0, 0]), Err(5), of_profile(Panicked, Answer(vec![0])));
+    hold("9, with levels", (16, 3, 1, &[0, 0]), Err(5), of_profile(Panicked, Answer(vec![0])));
+    hold("10", (1, 2, 0, &[]), Err(5), of_profile(Panicked, Answer(vec![])));
+    hold("10, with levels", (4, 16, 2, &[0]), Err(5), of_profile(Panicked, Answer(vec![0, 0])));
+    let chain = [0, 0, 0, 4, 0, 8, 0, 0x10, 0, 0x20, 0, 0x40];
+    hold("11", (15, 0, 1, &chain), Ok(vec![0]), of_profile(Panicked, Answer(vec![0])));
+    hold("11, one repeat less", (15, 0, 1, &chain[..10]), Ok(vec![0]), Answer(vec![0]));
+    // Eight levels an octet.
+    let above = vec![0; 4_194_304 / 8 + 1];
+    hold("12", (1, 1, 8 * above.len(), &above), Err(9), Answer(vec![0; 8 * above.len()]));
+    let ours = run_length_into(1, 1, 8, &[0], &mut []).map_err(|refusal| refusal.number());
+    assert_eq!((ours, oracle::run_length(1, 1, 8, &[0])), (Err(10), Answer(vec![0; 8])), "13");
+}
 
 /// What the Rust makes of an input.
 #[derive(Debug, PartialEq)]
@@ -179,6 +295,19 @@ fn differences() -> Vec<Difference> {
             Ok(These(vec![Missing1])),
             || Gives(vec![Missing1]),
         ),
+        both(
+            "no difference: the last length code",
+            complex([0, 1, 0, 0, 0, 1, 1, 8], &[0xff]),
+            Ok(These(numbers(&[0]))),
+            || Gives(numbers(&[0])),
+        ),
+        both("no difference: its room", declared(1, complex([0, 1, 0, 0, 0, 1, 1, 8], &[])), Err(7), mismatch),
+        both(
+            "no difference: pad bits and octets after the last value",
+            complex([0, 1, 1, 0, 0, 0, 1, 0], &[0x7f, 0xff]),
+            Ok(These(numbers(&[0]))),
+            || Gives(numbers(&[0])),
+        ),
     ]
 }
 
@@ -191,7 +320,7 @@ fn each_difference_is_as_it_is_written() {
             None => oracle::unpack_complex(&input.template, &input.payload),
             Some(differences) => oracle::unpack_spatial(&input.template, differences, &input.payload),
         };
-        let expected = if cfg!(debug_assertions) { checked } else { unchecked };
+        let expected = of_profile(checked, unchecked);
         assert!(is(&rust, &expected), "{number}: the Rust is not as expected, {expected:?}");
     }
 }
@@ -336,7 +465,7 @@ fn each_difference_of_packing_is_as_it_is_written() {
         let ours = pack(&numbers, list.lookahead).map(shown).map_err(|refusal| refusal.number());
         assert_eq!((&written, &ours), (&document.as_ref().map(octets).map_err(|number| *number), &written), "{number}");
 
-        let expected = if cfg!(debug_assertions) { checked } else { unchecked };
+        let expected = of_profile(checked, unchecked);
         match (oracle::pack(&numbers, list.lookahead as usize), &expected) {
             (Answer(rust), Packs::As(these, announced, read)) => {
                 assert_eq!((rust.template, rust.payload.clone()), octets(these), "{number}: the Rust");

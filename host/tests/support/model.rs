@@ -4,10 +4,14 @@
 //! `oracle/src/unpacking.rs` says the same. The two are written apart on purpose, each from document 01 and neither from
 //! the other, as two witnesses: a slip of one should not be a slip of both.
 
+pub mod packing;
+pub mod run_length;
+
+use cleatmow::maps::Numbers;
 use cleatmow::{Differences, Point, Refusal, Section5, Template, TemplateNumbers};
 
 /// What a call is given beside the lent buffer. Without differences it is template 5.2, with them 5.3.
-#[derive(Clone, Debug)]
+#[derive(Clone, Debug, PartialEq)]
 pub struct Input {
     pub template: Template,
     pub differences: Option<Differences>,
@@ -120,20 +124,26 @@ fn read(input: &Input) -> Result<Read<'_>, u32> {
 }
 
 impl Read<'_> {
-    fn group(&self, place: u32) -> Group {
-        let template = &self.input.template;
+    /// What a group has in a group field: reference, width code, length code.
+    fn codes(&self, place: u32) -> [u128; 3] {
+        let Template { number_width, width_bits, length_bits, .. } = self.input.template;
         let code = |field: usize, width: u8| {
             let width = u128::from(width);
             number(&self.input.payload, 8 * self.starts[field] + u128::from(place) * width, width)
         };
+        [code(0, number_width), code(1, width_bits), code(2, length_bits)]
+    }
+
+    fn group(&self, place: u32) -> Group {
+        let template = &self.input.template;
+        let [reference, width_code, length_code] = self.codes(place);
         Group {
-            reference: code(0, template.number_width),
-            width: code(1, template.width_bits) + u128::from(template.width_reference),
+            reference,
+            width: width_code + u128::from(template.width_reference),
             length: if place == template.groups - 1 {
                 u128::from(template.last_length)
             } else {
-                code(2, template.length_bits) * u128::from(template.length_increment)
-                    + u128::from(template.length_reference)
+                length_code * u128::from(template.length_increment) + u128::from(template.length_reference)
             },
         }
     }
@@ -199,6 +209,24 @@ impl Read<'_> {
         }
         points
     }
+}
+
+/// The descriptors and the groups of an input, as they are written, or the refusal as far as 7 for the values.
+pub fn read_back(input: &Input) -> Result<(Vec<u64>, Vec<Written>), u32> {
+    let read = read(input)?;
+    let Differences { order, descriptor_octets } =
+        input.differences.unwrap_or(Differences { order: 0, descriptor_octets: 0 });
+    let bits = 8 * u128::from(descriptor_octets);
+    let descriptors = (0..=u128::from(order)).map(|place| number(&input.payload, place * bits, bits) as u64).collect();
+    let mut place = 8 * read.starts[3];
+    let groups = (0..input.template.groups).map(|group| {
+        let [reference, width_code, length_code] = read.codes(group).map(|code| code as u64);
+        let Group { width, length, .. } = read.group(group);
+        let values = (0..length).map(|value| number(&input.payload, place + value * width, width) as u64).collect();
+        place += length * width;
+        Written { reference, width_code, length_code, values }
+    });
+    Ok((descriptors, groups.collect()))
 }
 
 /// How many points the payload has, or the refusal as far as 7 for the values.
@@ -312,4 +340,58 @@ pub fn payload(
     });
     payload.extend(field(pad, values));
     payload
+}
+
+/// A number of so many bits: any, or close to either end, where missing points are.
+pub fn number_of(chance: &mut Numbers, bits: u64) -> u64 {
+    let greatest = (1 << bits) - 1;
+    match chance.below(8) {
+        0 => greatest,
+        1 => greatest.saturating_sub(1),
+        2 => 0,
+        _ => chance.below(greatest + 1),
+    }
+}
+
+/// A map of a few groups that is well packed, under either template.
+pub fn good(chance: &mut Numbers) -> Input {
+    let count = 1 + chance.below(7);
+    let number_width = chance.below(32);
+    // Groups of up to 31 bits: of one width, of a few, or of any.
+    let width_reference = chance.below(32);
+    let width_bits = [0, 1, 2, 3, 5, 32][chance.below(6) as usize];
+    let most_code = ((1 << width_bits) - 1).min(31 - width_reference);
+    let (length_reference, increment) = (chance.below(5), [0, 1, 2, 3, 7, 255][chance.below(6) as usize]);
+    let length_bits = [0, 1, 2, 4, 11, 32][chance.below(6) as usize];
+    let last = chance.below(12);
+    let differences = (chance.below(2) == 0)
+        .then(|| Differences { order: 1 + chance.below(2) as u8, descriptor_octets: 1 + chance.below(4) as u8 });
+    let lengths = (length_reference as u32, increment as u8, last as u32, length_bits as u8);
+    let template = Template {
+        missing: chance.below(3) as u8,
+        ..template(number_width as u8, count as u32, (width_reference as u8, width_bits as u8), lengths)
+    };
+    let groups: Vec<Written> = (1..=count)
+        .map(|place| {
+            let width_code = chance.below(most_code + 1);
+            // Where the code counts, so that there are up to 12 points more; where it does not, any.
+            let counts = place < count && increment > 0;
+            let most = if counts { 12 / increment } else { u64::MAX }.min((1 << length_bits) - 1);
+            let length_code = chance.below(most + 1);
+            let length = if place < count { length_code * increment + length_reference } else { last };
+            let width = width_code + width_reference;
+            let values = (0..length).map(|_| number_of(chance, width)).collect();
+            Written { reference: number_of(chance, number_width), width_code, length_code, values }
+        })
+        .collect();
+    let mut descriptors = Vec::new();
+    if let Some(Differences { order, descriptor_octets }) = differences {
+        let bits = 8 * u64::from(descriptor_octets);
+        descriptors.extend((0..order).map(|_| number_of(chance, bits)));
+        let sign = chance.below(2) << (bits - 1);
+        descriptors.push(sign | number_of(chance, bits - 1));
+    }
+    let pad = chance.below(2) as u8;
+    let payload = payload(&template, differences.as_ref(), &descriptors, &groups, pad);
+    Input { template, differences, declared: 0, payload }
 }

@@ -1,7 +1,8 @@
 //! The live comparison: the Rust and ours, through its C calls, on the same inputs, which are the same in every run.
 //!
 //! `compare` runs it all, prints what was compared, and fails on a difference and where too little was compared.
-//! With an operation and an input it judges that one, whose payload is hexadecimal, or - for none:
+//! `compare at_scale` does so with ten times as many inputs by chance, or as many times as a number after it says, and then
+//! prints the tables of docs/DIFFERENCES.md. With an operation and an input it judges that one, whose payload is hexadecimal, or - for none:
 //!
 //! - `compare run_length BITS MAX_LEVEL DECLARED PAYLOAD`
 //! - `compare unpack_complex` and the numbers of the C call in its order, the octets that are lent, the payload
@@ -21,6 +22,8 @@ mod packing;
 #[cfg(have_text)]
 mod run_length;
 #[cfg(have_text)]
+mod summary;
+#[cfg(have_text)]
 mod tally;
 #[cfg(have_text)]
 mod unpacking;
@@ -34,12 +37,9 @@ fn main() -> std::process::ExitCode {
     let arguments: Vec<String> = std::env::args().skip(1).collect();
     let words: Vec<&str> = arguments.iter().map(String::as_str).collect();
     let agreed = match words[..] {
-        // Each prints its table, whatever the one before it found.
-        [] => {
-            let operations: [fn() -> tally::Tally; 4] =
-                [run_length::compare, unpacking::compare_complex, unpacking::compare_spatial, packing::compare];
-            operations.map(|compare| compare().report()) == [true; 4]
-        }
+        [] => reported(1).1,
+        ["at_scale"] => at_scale(10),
+        ["at_scale", scale] => at_scale(scale.parse().expect("see the top of this file")),
         ["run_length", ref input @ ..] => {
             let input = run_length::Input::from_words(input).expect("see the top of this file");
             judged(&input, run_length::judge(&input))
@@ -55,6 +55,33 @@ fn main() -> std::process::ExitCode {
         _ => panic!("see the top of this file"),
     };
     if agreed { ExitCode::SUCCESS } else { ExitCode::FAILURE }
+}
+
+/// Compares all. Each operation prints its table, whatever the one before it found.
+#[cfg(have_text)]
+fn reported(scale: u64) -> ([tally::Tally; 4], bool) {
+    let operations: [fn(u64) -> tally::Tally; 4] =
+        [run_length::compare, unpacking::compare_complex, unpacking::compare_spatial, packing::compare];
+    let mut agreed = true;
+    let tallies = operations.map(|compare| {
+        let tally = compare(scale);
+        agreed &= tally.report();
+        tally
+    });
+    (tallies, agreed)
+}
+
+/// The same with so many times as many inputs, and then the tables for docs/DIFFERENCES.md, in which nothing may be
+/// missing.
+#[cfg(have_text)]
+fn at_scale(scale: u64) -> bool {
+    let (tallies, agreed) = reported(scale);
+    print!("\n{}", summary::tables(scale, &tallies));
+    let never = summary::never_reached(&tallies);
+    if !never.is_empty() {
+        print!("\nNEVER REACHED:\n{never}");
+    }
+    agreed && never.is_empty()
 }
 
 #[cfg(have_text)]

@@ -197,11 +197,16 @@ fn shown(octets: &[u8]) -> String {
     if octets.len() > 360 { format!("{} octets", octets.len()) } else { words::of(octets) }
 }
 
-/// All inputs of the comparison.
-pub fn compare() -> Tally {
-    let mut comparison = Comparison { tally: Tally::new("pack"), dice: Dice::new(502) };
+/// All inputs of the comparison, and so many times as many of those that are made by chance. At scale, longer short ones
+/// and every lookahead too.
+pub fn compare(scale: u64) -> Tally {
+    const SEED: u64 = 502;
+    let mut comparison = Comparison { tally: Tally::new("pack", SEED), dice: Dice::new(SEED), scale };
     comparison.short();
     comparison.made();
+    if scale > 1 {
+        comparison.lookaheads();
+    }
     comparison.long();
     comparison.steps();
     comparison.lent();
@@ -212,6 +217,7 @@ pub fn compare() -> Tally {
 struct Comparison {
     tally: Tally,
     dice: Dice,
+    scale: u64,
 }
 
 impl Comparison {
@@ -237,11 +243,12 @@ impl Comparison {
         shape.list(&mut self.dice, count, longest)
     }
 
-    /// Every list of up to six numbers, each one of four.
+    /// Every list of up to six numbers, at scale of up to eight, each one of four.
     fn short(&mut self) {
         self.stage("short, every one", 80_000, 0);
+        let most = if self.scale > 1 { 8 } else { 6 };
         for values in [[0, 1, 2, 3], [0, 1, 7, 8], [0, 5, 1_000, GREATEST_NUMBER]] {
-            for count in 1..=6 {
+            for count in 1..=most {
                 for list in 0..4_usize.pow(count) {
                     let numbers: Vec<u32> = (0..count).map(|place| values[list >> (2 * place) & 3]).collect();
                     for lookahead in 1..=count {
@@ -255,7 +262,7 @@ impl Comparison {
     /// Lists of every shape.
     fn made(&mut self) {
         self.stage("made, of every shape", 75_000, 0);
-        for _ in 0..80_000 {
+        for _ in 0..80_000 * self.scale {
             let most = self.dice.one_of(&[1, 2, 8, 30, 100, 300]);
             let count = 1 + self.dice.below(most) as usize;
             let longest = self.dice.one_of(&[1, 4, 40]);
@@ -265,10 +272,23 @@ impl Comparison {
         }
     }
 
+    /// Each list at every lookahead that sees something else, and at some that see all.
+    fn lookaheads(&mut self) {
+        self.stage("every lookahead", 100_000 * self.scale, 0);
+        for _ in 0..5_000 * self.scale {
+            let count = 2 + self.dice.below(40) as usize;
+            let longest = self.dice.one_of(&[1, 4, 12]);
+            let numbers = self.list(count, longest);
+            for lookahead in (1..=count as u32 + 1).chain([64, 1_024, GREATEST_LOOKAHEAD]) {
+                self.one(lookahead, &numbers, None);
+            }
+        }
+    }
+
     /// As long as the Rust's look-ahead bears.
     fn long(&mut self) {
         self.stage("long", 300, 10);
-        for _ in 0..600 {
+        for _ in 0..600 * self.scale {
             let (count, lookahead) = match self.dice.below(3) {
                 0 => (3_000, self.dice.one_of(&[1_024, GREATEST_LOOKAHEAD])),
                 1 => (10_000, 64),
@@ -285,7 +305,7 @@ impl Comparison {
     fn steps(&mut self) {
         self.stage("steps of the lengths", 4_000, 4_000);
         for step in (0..=255).chain(200..=600).chain([768, 1_021, 1_024, 1_200, 4_096, 65_521]) {
-            for _ in 0..20 {
+            for _ in 0..20 * self.scale {
                 let least = 1 + self.dice.below(300);
                 let groups = 2 + self.dice.below(6);
                 // A step that goes one time is the greatest divisor; among others it may be a multiple.
@@ -301,7 +321,7 @@ impl Comparison {
     /// Too little room for one or several of the three, and more than enough.
     fn lent(&mut self) {
         self.stage("lent buffers", 5_000, 10_000);
-        for _ in 0..30_000 {
+        for _ in 0..30_000 * self.scale {
             let count = 1 + self.dice.below(24) as usize;
             let numbers = self.list(count, 6);
             let lookahead = self.lookahead();

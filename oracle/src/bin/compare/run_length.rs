@@ -63,7 +63,7 @@ pub fn judge(input: &Input) -> Verdict {
         Answer(levels) if ours.as_ref() == Ok(&levels) => Verdict::Accepted,
         Answer(levels) => different(ours, "the Rust", Ok(levels)),
         Refused(said) => match refusal_for(&said) {
-            Some(number) if ours == Err(number) => Verdict::Refused,
+            Some(number) if ours == Err(number) => Verdict::Refused(number),
             Some(number) => different(ours, "the Rust", Err(number)),
             None => Verdict::Different(format!("the Rust says {said}")),
         },
@@ -84,10 +84,10 @@ fn different(ours: Levels, judge: &str, right: Levels) -> Verdict {
     Verdict::Different(format!("ours: {}; {judge}: {}", told(ours), told(right)))
 }
 
-/// All inputs of the comparison.
-pub fn compare() -> Tally {
-    let (tally, dice) = (Tally::new("run_length"), Dice::new(7200));
-    let mut comparison = Comparison { tally, dice };
+/// All inputs of the comparison, and so many times as many of those that are made by chance.
+pub fn compare(scale: u64) -> Tally {
+    const SEED: u64 = 7200;
+    let mut comparison = Comparison { tally: Tally::new("run_length", SEED), dice: Dice::new(SEED), scale };
     comparison.short();
     comparison.lengths();
     comparison.made();
@@ -99,6 +99,7 @@ pub fn compare() -> Tally {
 struct Comparison {
     tally: Tally,
     dice: Dice,
+    scale: u64,
 }
 
 impl Comparison {
@@ -157,7 +158,7 @@ impl Comparison {
     /// Longer payloads, and damaged copies of each.
     fn made(&mut self) {
         self.tally.stage("made, and damaged copies", 100_000);
-        for _ in 0..25_000 {
+        for _ in 0..25_000 * self.scale {
             let bits = 1 + self.dice.below(15) as u8;
             let codings = Coding::with_bits(&mut self.dice, bits);
             let coding = self.dice.one_of(&codings);

@@ -7,8 +7,8 @@ use std::fmt::Display;
 pub enum Verdict {
     /// Both accept, with equal answers.
     Accepted,
-    /// Both refuse, ours with document 01's number for what the Rust says.
-    Refused,
+    /// Both refuse, ours with this number, which is document 01's for what the Rust says.
+    Refused(u32),
     /// Document 01 does not ask the two to meet here, for this reason; ours does as document 01 says.
     Outside(&'static str),
     /// They differ, or ours differs from document 01 where the Rust is no judge: what each says.
@@ -16,10 +16,15 @@ pub enum Verdict {
 }
 
 pub struct Tally {
-    operation: &'static str,
+    pub operation: &'static str,
+    /// What the inputs are made of.
+    pub seed: u64,
     stages: Vec<Stage>,
-    outside: BTreeMap<&'static str, u64>,
-    different: u64,
+    /// Those that both refuse, by their number.
+    pub refused: BTreeMap<u32, u64>,
+    /// Those outside the meeting, by their reason.
+    pub outside: BTreeMap<&'static str, u64>,
+    pub different: u64,
 }
 
 /// How many inputs of a stage have to come out so: a comparison of nothing is none.
@@ -41,8 +46,9 @@ struct Stage {
 const DIFFERENCES_SHOWN: u64 = 20;
 
 impl Tally {
-    pub fn new(operation: &'static str) -> Self {
-        Self { operation, stages: Vec::new(), outside: BTreeMap::new(), different: 0 }
+    pub fn new(operation: &'static str, seed: u64) -> Self {
+        let (refused, outside) = (BTreeMap::new(), BTreeMap::new());
+        Self { operation, seed, stages: Vec::new(), refused, outside, different: 0 }
     }
 
     /// What is counted from here on is of this stage, in which both have to accept `required` inputs and to refuse as
@@ -59,7 +65,10 @@ impl Tally {
         let stage = self.stages.last_mut().expect("a stage comes first");
         match verdict {
             Verdict::Accepted => stage.accepted += 1,
-            Verdict::Refused => stage.refused += 1,
+            Verdict::Refused(number) => {
+                stage.refused += 1;
+                *self.refused.entry(number).or_default() += 1;
+            }
             Verdict::Outside(reason) => {
                 stage.outside += 1;
                 *self.outside.entry(reason).or_default() += 1;
@@ -71,6 +80,11 @@ impl Tally {
                 }
             }
         }
+    }
+
+    /// Those that both accept.
+    pub fn accepted(&self) -> u64 {
+        self.stages.iter().map(|stage| stage.accepted).sum()
     }
 
     /// Prints the table, and answers whether all is well.
@@ -85,6 +99,9 @@ impl Tally {
                 println!("  TOO FEW: {accepted} accepted, {refused} refused and {outside} outside are asked for");
                 enough = false;
             }
+        }
+        for (number, count) in &self.refused {
+            println!("  refused with {number}: {count}");
         }
         for (reason, count) in &self.outside {
             println!("  outside, {reason}: {count}");

@@ -93,7 +93,7 @@ impl Judge {
                 other => Verdict::Different(format!("document 01: {count} points; the Rust: {}", told(other))),
             },
             (Err(number), _) => match rust(input) {
-                Refused(said) if refusals_for(&said).contains(&number) => Verdict::Refused,
+                Refused(said) if refusals_for(&said).contains(&number) => Verdict::Refused(number),
                 other => Verdict::Different(format!("document 01: refusal {number}; the Rust: {}", told(other))),
             },
             (Ok(points), _) => match apart {
@@ -160,18 +160,19 @@ fn shown(octets: &[u8]) -> String {
     if octets.len() > 360 { format!("{} octets", octets.len()) } else { words::of(octets) }
 }
 
-/// All inputs of the comparison under 5.2.
-pub fn compare_complex() -> Tally {
-    compared("unpack_complex", false, Dice::new(5200))
+/// All inputs of the comparison under 5.2, and so many times as many of those that are made by chance.
+pub fn compare_complex(scale: u64) -> Tally {
+    compared("unpack_complex", false, 5200, scale)
 }
 
-/// All inputs of the comparison under 5.3.
-pub fn compare_spatial() -> Tally {
-    compared("unpack_spatial", true, Dice::new(5300))
+/// The same under 5.3.
+pub fn compare_spatial(scale: u64) -> Tally {
+    compared("unpack_spatial", true, 5300, scale)
 }
 
-fn compared(name: &'static str, spatial: bool, dice: Dice) -> Tally {
-    let mut comparison = Comparison { tally: Tally::new(name), dice, judge: Judge::default(), spatial };
+fn compared(name: &'static str, spatial: bool, seed: u64, scale: u64) -> Tally {
+    let (tally, dice) = (Tally::new(name, seed), Dice::new(seed));
+    let mut comparison = Comparison { tally, dice, judge: Judge::default(), spatial, scale };
     comparison.short();
     if spatial {
         comparison.descriptors();
@@ -188,6 +189,7 @@ struct Comparison {
     dice: Dice,
     judge: Judge,
     spatial: bool,
+    scale: u64,
 }
 
 /// One group of all else 0, for a limit to be set in.
@@ -302,7 +304,7 @@ impl Comparison {
     /// Each number is one that is refused about once in three times, so that the first of several refusals is looked for.
     fn several_refusals(&mut self) {
         self.tally.stage("several refusals", 1_000);
-        for _ in 0..200_000 {
+        for _ in 0..200_000 * self.scale {
             let dice = &mut self.dice;
             let template = Template {
                 number_width: dice.one_of(&[0, 3, 32]),
@@ -336,7 +338,7 @@ impl Comparison {
     /// Maps cut short at every octet, and with octets more.
     fn lengths(&mut self) {
         self.tally.stage("every length", 20_000);
-        for _ in 0..12_000 {
+        for _ in 0..12_000 * self.scale {
             let groups = self.dice.one_of(&[1, 2, 4, 9]);
             let width = self.dice.one_of(&[2, 8, 20, 31]);
             let good = Input::some(&mut self.dice, self.spatial, Size { groups, length: 4, width });
@@ -351,7 +353,7 @@ impl Comparison {
     /// Made maps, and damaged copies of each.
     fn made(&mut self) {
         self.tally.stage("made, and damaged copies", 100_000);
-        for _ in 0..100_000 {
+        for _ in 0..100_000 * self.scale {
             let good = self.some();
             self.about_the_count(good.clone());
             for _ in 0..4 {

@@ -1,0 +1,154 @@
+//! Run-length, template 7.200.
+
+use crate::damage::{self, Chance, DECLARED};
+use crate::support::model::run_length::{answer, coded, good, points, run, runs};
+use crate::support::{model, others};
+use crate::unpacking::real_maps;
+use crate::{Block, Class, Input, Operation};
+use cleatmow::maps::{rain, Numbers};
+use cleatmow::{TemplateNumbers, LEVEL_OCTETS};
+
+/// Good maps, each with its own count declared.
+pub struct RunLength(Vec<Map>);
+
+#[derive(Clone, Debug, PartialEq)]
+pub struct Map {
+    bits: u8,
+    max_level: u16,
+    declared: u32,
+    payload: Vec<u8>,
+}
+
+#[derive(Debug, PartialEq)]
+pub struct Reading {
+    map: Map,
+    /// The octets that are lent for the levels.
+    room: usize,
+}
+
+impl Operation for RunLength {
+    type Input = Reading;
+
+    const NAME: &'static str = "run-length";
+
+    const REFUSALS: &'static [Class] = &[(5, ""), (11, ""), (9, ""), (10, "")];
+
+    fn damaged(&self, chance: &mut Chance) -> Reading {
+        let map = chance.one_of(&self.0);
+        let most = damage::most_points(chance);
+        let good = Reading { room: map.declared as usize * LEVEL_OCTETS, map };
+        loop {
+            let mut map = good.map.clone();
+            for _ in 0..chance.one_of(&[1, 1, 1, 2, 2, 3, 4]) {
+                damage(chance, &mut map);
+            }
+            let count = map.count();
+            if count <= most && !chance.once_in(3) {
+                map.declared = count as u32;
+            }
+            // More is not lent: 9 comes before 10.
+            let declared = if u128::from(map.declared) <= most { map.declared } else { good.map.declared };
+            let room = damage::room(chance, declared as usize * LEVEL_OCTETS);
+            let copy = Reading { map, room };
+            if copy != good {
+                return copy;
+            }
+        }
+    }
+}
+
+fn damage(chance: &mut Chance, map: &mut Map) {
+    match chance.below(14) {
+        0..=9 => damage::octets(chance, &mut map.payload),
+        10 => damage::octet(chance, &mut map.bits, &[0, 1, 2, 15, 16, 17, 255]),
+        11 => {
+            let beyond = 1 << (map.bits % 16);
+            let limits = [0, 1, beyond - 1, beyond, beyond.max(2) - 2, u16::MAX.into()];
+            map.max_level = damage::number(chance, map.max_level.into(), 16, &limits) as u16;
+        }
+        _ => damage::long(chance, &mut map.declared, &DECLARED),
+    }
+}
+
+impl Map {
+    /// The points that it has; 0 where it is refused before they are counted.
+    fn count(&self) -> u128 {
+        runs(self.bits, self.max_level, &self.payload).map_or(0, |runs| points(&runs))
+    }
+}
+
+impl Input for Reading {
+    fn read(&self) -> &[u8] {
+        &self.map.payload
+    }
+
+    fn lent(&self) -> Vec<usize> {
+        vec![self.room]
+    }
+
+    fn call(&self, read: &mut Block, lent: &mut [Block]) -> u32 {
+        let Map { bits, max_level, declared, .. } = self.map;
+        cleatmow::run_length_into(bits, max_level, declared, read.octets(), lent[0].octets())
+            .map_or_else(cleatmow::Refusal::number, |()| 0)
+    }
+
+    fn right(&self, lent: &mut [Block]) -> Class {
+        let Map { bits, max_level, declared, payload } = &self.map;
+        let lent = lent[0].octets();
+        let (number, left) = answer((*bits, *max_level, *declared, payload), lent);
+        lent.copy_from_slice(&left);
+        (number, "")
+    }
+}
+
+impl RunLength {
+    /// Document 01's cases, parts of the real maps with their numbers for levels, small maps by other writers, and made
+    /// ones.
+    pub fn new() -> RunLength {
+        let mut chance = Chance(Numbers::new(200));
+        let map = |bits, max_level, payload: &[u8]| Map { bits, max_level, declared: 0, payload: payload.to_vec() };
+        let mut maps = vec![map(4, 9, &[0x3C, 0xB5]), map(4, 9, &[0x3C, 0x50])];
+        for real in real_maps() {
+            let numbers = model::points(&real).expect("a good map");
+            let levels: Vec<u16> = numbers.iter().map(|(_, number)| *number as u16).collect();
+            maps.extend((0..100).map(|_| part(&mut chance, &levels)));
+        }
+        for other in others::maps().iter().filter(|other| other.template == 200 && other.refusal.is_none()) {
+            let TemplateNumbers::RunLength { bits, max_level } = other.section5.numbers else {
+                panic!("a map of levels: {:?}", other.section5);
+            };
+            maps.push(map(bits, max_level, &other.payload));
+        }
+        for points in [1, 2, 5, 30, 100, 1_000, 3_000] {
+            maps.push(map(8, 200, &rain(points).payload));
+        }
+        for bits in (1..=15).cycle().take(450) {
+            let greatest = (1 << bits) - 1;
+            let any = chance.below(greatest + 1);
+            let max_level = chance.one_of(&[0, 1, greatest / 2, greatest - 1, greatest, any, any]) as u16;
+            let payload = good(&mut chance.0, bits, max_level);
+            maps.push(map(bits, max_level, &payload));
+        }
+        for map in &mut maps {
+            map.declared = map.count() as u32;
+        }
+        // A long one takes as much time as a thousand others.
+        maps.retain(|map| map.declared <= 3_000);
+        RunLength(maps)
+    }
+}
+
+/// Up to sixty levels that follow one another, with codes of any bits that hold them and a digit.
+fn part(chance: &mut Chance, levels: &[u16]) -> Map {
+    let first = chance.below(levels.len());
+    let levels: Vec<u16> = levels[first..].iter().take(1 + chance.below(60)).copied().collect();
+    let greatest = levels.iter().copied().max().unwrap_or(0);
+    // The base is at least 2.
+    let least_bits = (u16::BITS - (greatest + 2).leading_zeros()) as usize;
+    let bits = least_bits + chance.below(16 - least_bits);
+    let max_level = usize::from(greatest) + chance.below((1 << bits) - 2 - usize::from(greatest));
+    let (bits, max_level) = (bits as u8, max_level as u16);
+    let codes: Vec<u16> =
+        levels.chunk_by(u16::eq).flat_map(|levels| run(bits, max_level, levels[0], levels.len() as u32)).collect();
+    Map { bits, max_level, declared: 0, payload: coded(bits, &codes) }
+}
