@@ -24,8 +24,8 @@ test:
 host:
 	@cd host && cargo fmt --check && $(CARGO) test
 
-# The Rust crate as a judge: its doors' tests, what docs/DIFFERENCES.md says of unpacking and packing, with the Rust's
-# overflow checks and, by --release, without them, and the live comparison.
+# The Rust crate as a judge: its doors' tests, what docs/DIFFERENCES.md says, with the Rust's overflow checks and, by
+# --release, without them, and the live comparison.
 compare:
 	@cd oracle && cargo fmt --check && $(CARGO) test && $(CARGO) test --release --test differences
 	@cd oracle && $(CARGO) run --bin compare
