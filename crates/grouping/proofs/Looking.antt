@@ -1,20 +1,21 @@
 -- The look-ahead, which stops as soon as the comparison is decided. Assumes nothing.
-use mathlib.Core.Path.{_≡_, sym, ap, _∙_}
-use mathlib.Core.Bool.{Bool, true, false}
+use mathlib.Core.Path.{_≡_, refl, sym, ap, _∙_}
+use mathlib.Core.Bool.{Bool, true, false, _&&_, false≢true}
 use mathlib.Core.List.{List, [], _∷_}
-use Prim.Native.Nat.{ℕ, _+_, _-_, _*_, _≤_, _<_, min}
-use native.Mathlib.Nat.{mul-zero, mul-le-mul-left}
+use Prim.Native.Nat.{ℕ, zero, suc, _+_, _-_, _*_, _≤_, _<_, min}
+use native.Mathlib.Nat.{add-zero, mul-zero, mul-le-mul-left}
 use native.Mathlib.Omega.{arith}
-use borrow.Author.Tests.{le-ltb, lt-ltb}
-use lib.Dec.{ltb}
+use borrow.Author.Tests.{le-ltb, lt-ltb, ltb-true, leb-true}
+use lib.Dec.{ltb, leb}
 use lib.ListN.{length, getD, take, drop}
-use lib.Seq.{slice, length-slice}
+use lib.Seq.{slice, length-slice, getD-drop, getD-take}
 use Rattle.format.specs.Lists.{greatest, least}
 use Rattle.format.specs.Grouping.{digitsIn, bits, widthOf, cost}
+use Rattle.laws.specs.Extremes.{least-lower, fits-width}
 use Rattle.numbers.specs.Windows.{windowOf, widenedBy}
 use Rattle.numbers.specs.declared.Window.{Window}
 use Rattle.numbers.proofs.Windows.{window-ordered, window-width}
-use Rattle.grouping.specs.Rule.{Level, Known}
+use Rattle.grouping.specs.Rule.{Level, Stops, Known}
 use Rattle.grouping.proofs.Slices.{reach-takes}
 use Rattle.grouping.proofs.Levels.{window-next, width-longer, level-window}
 
@@ -72,7 +73,43 @@ module _ (list : List ℕ) (end reach keep extend : ℕ) (far : reach ≤ length
       let u = rw e at (s .under) in
       rw (length-slice end reach list far) (sym (lt-ltb (keep + (reach - end) * widthOf (slice end reach list)) extend u))
 
+  -- where two numbers ahead differ, each of them costs a bit at least
+  slice-at : (i : ℕ) → end + i < reach → getD (slice end reach list) i 0 ≡ getD list (end + i) 0
+  slice-at i l = getD-drop end (take reach list) i 0 ∙ getD-take reach list (end + i) 0 l
+
+  pub looking-differs : (i : ℕ) → end < i → i < reach → (getD list i 0 ≡ getD list end 0 → ⊥) → extend ≤ keep + (reach - end)
+      → false ≡ ltb (keep + cost widthOf (slice end reach list)) extend
+  looking-differs i h l other dear = by-width (widthOf (slice end reach list)) refl
+    where
+      xs : List ℕ
+      xs = slice end reach list
+
+      long : length xs ≡ reach - end
+      long = length-slice end reach list far
+
+      p : end + (i - end) ≡ i
+      p = omega arith
+
+      near : getD xs (i - end) 0 ≡ getD list i 0
+      near = slice-at (i - end) (omega arith) ∙ ap (λ (n : ℕ). getD list n 0) p
+
+      first : getD xs 0 0 ≡ getD list end 0
+      first = slice-at 0 (omega arith) ∙ ap (λ (n : ℕ). getD list n 0) (add-zero end)
+
+      by-width : (w : ℕ) → widthOf xs ≡ w → false ≡ ltb (keep + cost widthOf xs) extend
+      by-width zero e =
+          let one = rw e at (fits-width xs (i - end) (omega (arith, long))) in
+          let two = rw e at (fits-width xs 0 (omega (arith, long))) in
+          absurd (other (omega (arith, near, first, one, two, least-lower xs (i - end) (omega (arith, long)), least-lower xs 0 (omega (arith, long)))))
+      by-width (suc w) e =
+          let m : length xs * 1 ≤ length xs * suc w = mul-le-mul-left (length xs) (omega arith) in
+          rw e (sym (le-ltb (keep + length xs * suc w) extend (omega (arith, long))))
+
 -- ---- what looking ahead answers
+
+both : (a b : Bool) → (a && b) ≡ true → (a ≡ true) × (b ≡ true)
+both true b e = (refl, e)
+both false b e = absurd (false≢true e)
 
 module _ (list : List ℕ) (k end keep extend : ℕ) where
   pub not-dearer : extend ≤ keep → false ≡ ltb (keep + cost widthOf (take k (drop end list))) extend
@@ -84,5 +121,13 @@ module _ (list : List ℕ) (k end keep extend : ℕ) where
         let d : slice end reach list ≡ take k (drop end list) = rw (er, ec) (sym (reach-takes list k end (omega arith))) in
         e ∙ ap (λ (l : List ℕ). ltb (keep + cost widthOf l) extend) d
 
-    pub known : {level : ℕ} → (end < level) × (level ≤ reach) × Level (slice end level list) → Known list k end level
+    pub known : {level : ℕ} → (end < level) × (level ≤ reach) × Level (slice end level list) × Stops list end level reach → Known list k end level
     known h = record { there = there; flat = h .2; within = omega (arith, h .1); near = omega (arith, h .1) }
+
+    -- where one bit a number is too dear, and equal numbers end before all are looked at, nothing else is to be seen
+    pub dear : {level : ℕ} {b : Bool} → (end < level) × (level ≤ reach) × Level (slice end level list) × Stops list end level reach
+        → b ≡ (ltb level reach && leb extend (keep + (reach - end))) → b ≡ true → false ≡ ltb (keep + cost widthOf (take k (drop end list))) extend
+    dear {level} h eb et =
+        let p = both (ltb level reach) (leb extend (keep + (reach - end))) (sym eb ∙ et) in
+        let l : level < reach = ltb-true level reach (p .0) in
+        looked (looking-differs list end reach keep extend (omega arith) level (h .0) l (h .3 l) (leb-true extend (keep + (reach - end)) (p .1)))

@@ -3,7 +3,7 @@ use mathlib.Core.Path.{_≡_}
 use mathlib.Core.List.{List, [], _∷_, flatMap}
 use Prim.Native.Nat.{ℕ, _+_, _<_, _≤_}
 use lib.Dec.{ltb}
-use lib.ListN.{length, take, drop}
+use lib.ListN.{length, getD, take, drop}
 use lib.Seq.{slice}
 use Rattle.format.specs.Lists.{greatest, least, _over_}
 use Rattle.format.specs.Refusals.{_gives_, first, Left, left}
@@ -17,6 +17,10 @@ use Rattle.format.specs.declared.Refusal.the-variants.{Room}
 -- numbers that are all equal
 abbrev pub Level : List ℕ → Type 0
 Level numbers = least numbers ≡ greatest numbers
+
+-- equal numbers end at i, unless all that are looked at are equal
+abbrev pub Stops : List ℕ → ℕ → ℕ → ℕ → Type 0
+Stops numbers end i reach = i < reach → getD numbers i 0 ≡ getD numbers end 0 → ⊥
 
 -- the limits of packing, within which no sum of costs wraps
 pub record Limits (numbers : List ℕ) (k a : ℕ) : Type 0 where

@@ -1,8 +1,8 @@
 // Grouping, after `Groups` of the Rust's encoder: the groups of a list by document 01's rule.
 ghost use mathlib.Core.Path.{_≡_};
-ghost use mathlib.Core.Bool.{true, false};
+ghost use mathlib.Core.Bool.{true, false, _&&_};
 ghost use Prim.Native.Nat.{_+_, _*_, _-_, _<_, _≤_, _^_, min, max};
-ghost use lib.Dec.{ltb};
+ghost use lib.Dec.{ltb, leb};
 ghost use lib.ListN.{length, take, drop};
 ghost use lib.Seq.{slice, sets};
 ghost use Rattle.format.specs.Lists.{greatest};
@@ -10,7 +10,7 @@ ghost use Rattle.format.specs.Layout.{numbersIn, groupNumbers};
 ghost use Rattle.format.specs.Refusals.{left};
 ghost use Rattle.format.specs.Grouping.{widthOf, cost, groups01, recordsFrom, numberRefusals, groupNumbersOf};
 ghost use Rattle.laws.specs.First.{Gives, Clear};
-ghost use Rattle.grouping.specs.Rule.{Level, Limits, Known, Next, groupsLent};
+ghost use Rattle.grouping.specs.Rule.{Level, Stops, Limits, Known, Next, groupsLent};
 use format::Group;
 use format::Grouped;
 use format::Refusal;
@@ -38,7 +38,7 @@ fn behind(end: usize, level: usize) -> usize
 // How far the numbers from `end` on are equal, as far as the look-ahead reaches; those before `level` are known to be.
 fn level_end(numbers: &[u8], end: usize, level: usize, reach: usize) -> usize
     requires { ⌜ (end < reach) × (level ≤ reach) × (reach ≤ length (numbersIn (now numbers))) × (reach ≤ 4194304) × Level (slice end level (numbersIn (now numbers))) ⌝ }
-    ensures { λ r. ⌜ (end < r) × (r ≤ reach) × Level (slice end r (numbersIn (now (numbers .entry)))) ⌝ }
+    ensures { λ r. ⌜ (end < r) × (r ≤ reach) × Level (slice end r (numbersIn (now (numbers .entry)))) × Stops (numbersIn (now (numbers .entry))) end r reach ⌝ }
 {
     let first = numbers::number_at(numbers, end);
     let mut i = behind(end, level);
@@ -78,6 +78,14 @@ fn is_less(
     true
 }
 
+// Whether one bit for each number ahead is too dear already, and they are not all equal.
+fn is_dear(end: usize, level: usize, reach: usize, keep: usize, extend: usize) -> bool
+    requires { ⌜ (end ≤ reach) × (reach < 2 ^ 32) × (keep < 2 ^ 32) ⌝ }
+    ensures { λ r. ⌜ r ≡ (ltb level reach && leb extend (keep + (reach - end))) ⌝ }
+{
+    level < reach && extend <= keep + (reach - end)
+}
+
 // What looking ahead comes to: whether the group ends, and how far the next numbers are known to be equal.
 pub struct Look {
     pub ends: bool,
@@ -102,6 +110,12 @@ fn look_ahead(
     }
     let reach = reach_of(end, lookahead, numbers::count_of(numbers));
     let known = level_end(numbers, end, level, reach);
+    if is_dear(end, known, reach, keep, extend) {
+        return Look {
+            ends: false,
+            level: known,
+        };
+    }
     Look {
         ends: is_less(numbers, end, known, reach, keep, extend),
         level: known,

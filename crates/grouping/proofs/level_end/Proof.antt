@@ -29,7 +29,9 @@ number-at-requires-2 : tie.Need-number-at-requires-2 Inv-loop μ-loop
 number-at-requires-2 c κs = omega arith
 
 returns : tie.Need-returns Inv-loop μ-loop
-returns c = c .before .before .before .loop .inv
+returns c =
+    let inv = c .before .before .before .loop .inv in
+    (inv .0, inv .1, inv .2, λ l e. c .if1 .taken (omega (arith, e, c .before .number-at2 .ensures, c .before .before .before .before .before .number-at .ensures)))
 
 add-i : tie.Need-add-i Inv-loop μ-loop
 add-i c = omega arith
@@ -44,7 +46,7 @@ loop-again c =
     (omega arith, omega arith, level-next list (c .before .before .before .before .before .before .before .args .end) (c .before .before .before .loop .i) (inv .0) (omega arith) (inv .2) (omega arith) (omega (arith, c .if1 .left, c .before .number-at2 .ensures, c .before .before .before .before .before .number-at .ensures)))
 
 returns-2 : tie.Need-returns-2 Inv-loop μ-loop
-returns-2 c = c .before .loop .inv
+returns-2 c = let inv = c .before .loop .inv in (inv .0, inv .1, inv .2, λ l e. absurd (omega arith))
 
 pub level-end-spec : {M : Type 1} → statement M
 level-end-spec =

@@ -1,7 +1,7 @@
 -- `grouping::look_ahead` meets its contract. Assumes nothing.
 use native.Mathlib.Omega.{arith}
 use Rattle.format.specs.Layout.{numbersIn}
-use Rattle.grouping.proofs.Looking.{not-dearer, looked, known}
+use Rattle.grouping.proofs.Looking.{not-dearer, looked, known, dear}
 use borrow.Author.Needs.{needs}
 use Rattle.grouping.proofs.look_ahead.Statement.{statement}
 use Rattle.grouping.proofs.look_ahead.Tie as tie
@@ -22,16 +22,30 @@ level-end-requires c κs =
     let known = c .before .before .before .before .pre .1 in
     (omega arith, omega arith, omega arith, omega arith, known .flat)
 
-is-less-requires : tie.Need-is-less-requires
-is-less-requires c κs = ((c .level-end .ensures .0, c .level-end .ensures .1, omega arith, omega arith, c .level-end .ensures .2), (c .before .before .before .if1 .left, omega arith))
+is-dear-requires : tie.Need-is-dear-requires
+is-dear-requires c κs = (omega arith, omega arith, omega arith)
 
 returns-2 : tie.Need-returns-2
 returns-2 c =
-    let start = c .before .before .before .before .before .before in
+    let start = c .before .before .before .before .before .before .before in
     let before = start .pre .1 in
-    let counted = c .before .before .before .count-of .ensures in
-    let reached = c .before .before .reach-of .ensures in
-    (looked (numbersIn (start .args .numbers .now)) (start .args .lookahead) (start .args .end) _ _ counted reached (before .there) (c .is-less .ensures), known (numbersIn (start .args .numbers .now)) (start .args .lookahead) (start .args .end) 0 0 counted reached (before .there) (c .before .level-end .ensures))
+    let counted = c .before .before .before .before .count-of .ensures in
+    let reached = c .before .before .before .reach-of .ensures in
+    let levelled = c .before .before .level-end .ensures in
+    (dear (numbersIn (start .args .numbers .now)) (start .args .lookahead) (start .args .end) _ _ counted reached (before .there) levelled (c .before .is-dear .ensures) (c .if2 .taken), known (numbersIn (start .args .numbers .now)) (start .args .lookahead) (start .args .end) 0 0 counted reached (before .there) levelled)
+
+is-less-requires : tie.Need-is-less-requires
+is-less-requires c κs =
+    let levelled = c .before .before .level-end .ensures in
+    ((levelled .0, levelled .1, omega arith, omega arith, levelled .2), (c .before .before .before .before .before .if1 .left, omega arith))
+
+returns-3 : tie.Need-returns-3
+returns-3 c =
+    let start = c .before .before .before .before .before .before .before .before in
+    let before = start .pre .1 in
+    let counted = c .before .before .before .before .before .count-of .ensures in
+    let reached = c .before .before .before .before .reach-of .ensures in
+    (looked (numbersIn (start .args .numbers .now)) (start .args .lookahead) (start .args .end) _ _ counted reached (before .there) (c .is-less .ensures), known (numbersIn (start .args .numbers .now)) (start .args .lookahead) (start .args .end) 0 0 counted reached (before .there) (c .before .before .before .level-end .ensures))
 
 pub look-ahead-spec : {M : Type 1} → statement M
 look-ahead-spec =
@@ -41,5 +55,7 @@ look-ahead-spec =
     count-of-requires
     reach-of-requires
     level-end-requires
+    is-dear-requires
+    returns-2
     is-less-requires
-    returns-2)
+    returns-3)
