@@ -31,7 +31,7 @@ number-at-requires-2 c κs = omega arith
 returns : tie.Need-returns Inv-loop μ-loop
 returns c =
     let inv = c .before .before .before .loop .inv in
-    (inv .0, inv .1, inv .2, λ l e. c .if1 .taken (omega (arith, e, c .before .number-at2 .ensures, c .before .before .before .before .before .number-at .ensures)))
+    (inv .0, inv .1, inv .2, λ l e. absurd (omega (arith, e, c .if1 .taken, c .before .number-at2 .ensures, c .before .before .before .before .before .number-at .ensures)))
 
 add-i : tie.Need-add-i Inv-loop μ-loop
 add-i c = omega arith
