@@ -173,12 +173,15 @@ packedAnswers (packed.Payload t octets) =
     ∷ t .lengths .last ∷ t .lengths .bits ∷ octets .0 ∷ []
 packedAnswers (packed.Refused r) = []
 
--- room for g groups and n octets of payload
-abbrev pub packing : ℕ → List ℕ → ℕ → ℕ → Seen
-packing k xs g n =
-    let r = pack k xs (lent (g * groupSize)) (lent n) (lent summarySize) in
+-- room for g groups, n octets of payload and so many of the summary
+abbrev pub packingIn : ℕ → List ℕ → ℕ → ℕ → ℕ → Seen
+packingIn k xs g n room =
+    let r = pack k xs (lent (g * groupSize)) (lent n) (lent room) in
     record {
       number = packedNumber (r .answer);
       answers = packedAnswers (r .answer);
       left = r .groups ∷ r .payload ∷ r .summary ∷ [];
     }
+
+abbrev pub packing : ℕ → List ℕ → ℕ → ℕ → Seen
+packing k xs g n = packingIn k xs g n summarySize

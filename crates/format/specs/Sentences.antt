@@ -1,19 +1,23 @@
 -- Sentences of document 01 that no case of its own shows: one list with one claim. Assumes nothing.
-use mathlib.Core.Path.{refl}
-use mathlib.Core.List.{List, [], _∷_, _++_, flatMap}
-use Prim.Native.Nat.{_+_, _^_}
+use mathlib.Core.Path.{_≡_, refl}
+use mathlib.Core.Bool.{false}
+use mathlib.Core.List.{List, [], _∷_, _++_, map, flatMap}
+use Prim.Native.Nat.{ℕ, zero, suc, _+_, _^_}
+use lib.Dec.{eqb, ltb}
+use lib.ListN.{replicate, length-replicate}
 use lib.IntN.{pos, negsuc, negℤ}
-use Rattle.format.specs.Seen.{Case, _shows_, AllHold, lent, refused, answered, spanned, number, points, levels, group, packs, readingIn, writing, templateBy, template, unpacks, unpackingIn, unpacking, restoringIn, restoring, locates, unrollingIn, unrolling, grouping, packing}
+use Rattle.format.specs.Seen.{Case, _shows_, AllHold, lent, refused, answered, numbers, spanned, number, points, levels, group, packs, readingIn, writing, templateBy, template, unpacks, unpackingIn, unpacking, restoringIn, restoring, locates, unrollingIn, unrolling, grouping, packingIn, packing}
 use Rattle.format.specs.Lists.{listed, total, joined, anyOf, greatest, least}
-use Rattle.format.specs.Refusals.{first}
+use Rattle.format.specs.Refusals.{_gives_, first}
 use Rattle.format.specs.Bits.{bitIn, numberOf, spanOf, readField, writeField}
 use Rattle.format.specs.Template.{widthsAt, lengthsAt, valuesAt}
 use Rattle.format.specs.Unpacking.{codesOf, referenceOf, saidBy, groupWidth, groupLength, pointsBefore, bitsBefore, wrongGroup, decoded, pointOf, pointAt, pointsUpTo, placesOf, partOf, locate52, unpack52}
 use Rattle.format.specs.Differences.{descriptorsOf, raised, expected, restored, beyond, points53, locate53, left53, unpack53}
 use Rattle.format.specs.RunLength.{codesLeft, levelsOf, repeatsFirst, levelsIn, runLength}
-use Rattle.format.specs.Grouping.{digitsIn, bits, widthOf, endsBefore, groupsFrom, groupsOf, recordsFrom, groupNumbersOf}
+use Rattle.format.specs.Grouping.{digitsIn, bits, widthOf, endsBefore, groupsFrom, groupsOf, recordsFrom, numberRefusals, groupNumbersOf}
 use Rattle.format.specs.Packing.{summarySize, widthCoding, gcdIn, gcd, gcdFrom, divisorUpTo, incrementOf, butLast, lengthCoding, templateOf, lengthCodes, valueString, payloadOf, packingOf, pack}
-use Rattle.format.specs.Layout.{pointOctets, numbersIn, inFours}
+use Rattle.format.specs.Layout.{pointOctets, levelOctets, numbersIn, inFours}
+use Rattle.format.specs.declared.Refusal.the-variants.{Numbers}
 use Rattle.format.specs.declared.Part.the-variants.{References, Lengths, Values}
 use Rattle.format.specs.declared.DecodedValue.the-variants.{Normal, Missing1, Missing2}
 
@@ -21,40 +25,40 @@ abbrev pub sentences : List Case
 sentences =
     -- the order of refusals: all faults at once, then one fewer each time
     -- 5.2
-    unpackingIn (templateBy 0 3 32 0 32 0 0 0 4 0) 1 [] 35 shows refused 1 (lent 35 ∷ [])
-    ∷ unpackingIn (templateBy 1 3 32 0 32 0 0 0 4 0) 1 [] 35 shows refused 2 (lent 35 ∷ [])
-    ∷ unpackingIn (templateBy 1 0 32 0 32 0 0 0 4 0) 1 [] 35 shows refused 6 (lent 35 ∷ [])
-    ∷ unpackingIn (templateBy 1 0 32 1 32 0 0 0 4 0) 1 [] 35 shows refused 5 (lent 35 ∷ [])
-    ∷ unpackingIn (templateBy 1 0 8 1 32 0 0 0 4 0) 1 [] 35 shows refused 7 (lent 35 ∷ [])
-    ∷ unpackingIn (templateBy 1 0 8 1 32 0 0 0 4 0) 1 (0x00 ∷ []) 35 shows refused 8 (lent 35 ∷ [])
-    ∷ unpackingIn (templateBy 1 0 8 1 3 0 0 0 4 0) 1 (0x00 ∷ []) 35 shows refused 7 (lent 35 ∷ [])
-    ∷ unpackingIn (templateBy 1 0 8 1 3 0 0 0 4 0) 1 (0x00 ∷ 0x0C ∷ 0x50 ∷ []) 35 shows refused 9 (lent 35 ∷ [])
+    unpackingIn (templateBy 0 3 32 0 32 0 0 0 4 0) 5 [] 35 shows refused 1 (lent 35 ∷ [])
+    ∷ unpackingIn (templateBy 1 3 32 0 32 0 0 0 4 0) 5 [] 35 shows refused 2 (lent 35 ∷ [])
+    ∷ unpackingIn (templateBy 1 0 32 0 32 0 0 0 4 0) 5 [] 35 shows refused 6 (lent 35 ∷ [])
+    ∷ unpackingIn (templateBy 1 0 32 1 32 0 0 0 4 0) 5 [] 35 shows refused 5 (lent 35 ∷ [])
+    ∷ unpackingIn (templateBy 1 0 8 1 32 0 0 0 4 0) 5 [] 35 shows refused 7 (lent 35 ∷ [])
+    ∷ unpackingIn (templateBy 1 0 8 1 32 0 0 0 4 0) 5 (0x00 ∷ []) 35 shows refused 8 (lent 35 ∷ [])
+    ∷ unpackingIn (templateBy 1 0 8 1 3 0 0 0 4 0) 5 (0x00 ∷ []) 35 shows refused 7 (lent 35 ∷ [])
+    ∷ unpackingIn (templateBy 1 0 8 1 3 0 0 0 4 0) 5 (0x00 ∷ 0x0C ∷ 0x50 ∷ []) 35 shows refused 9 (lent 35 ∷ [])
     ∷ unpackingIn (templateBy 1 0 8 1 3 0 0 0 4 0) 4 (0x00 ∷ 0x0C ∷ 0x50 ∷ []) 35 shows refused 10 (lent 35 ∷ [])
     ∷ unpackingIn (templateBy 1 0 8 1 3 0 0 0 4 0) 4 (0x00 ∷ 0x0C ∷ 0x50 ∷ []) 36
     shows points (number 0 ∷ number 3 ∷ number 0 ∷ number 5 ∷ [])
     -- 5.3, but for 12
-    ∷ restoringIn 0 0 (templateBy 0 3 32 0 32 0 0 0 4 0) 1 [] 35 shows refused 3 (lent 35 ∷ [])
-    ∷ restoringIn 1 0 (templateBy 0 3 32 0 32 0 0 0 4 0) 1 [] 35 shows refused 1 (lent 35 ∷ [])
-    ∷ restoringIn 1 0 (templateBy 1 3 32 0 32 0 0 0 4 0) 1 [] 35 shows refused 2 (lent 35 ∷ [])
-    ∷ restoringIn 1 0 (templateBy 1 0 32 0 32 0 0 0 4 0) 1 [] 35 shows refused 4 (lent 35 ∷ [])
-    ∷ restoringIn 1 1 (templateBy 1 0 32 0 32 0 0 0 4 0) 1 [] 35 shows refused 7 (lent 35 ∷ [])
-    ∷ restoringIn 1 1 (templateBy 1 0 32 0 32 0 0 0 4 0) 1 (0x0A ∷ 0x82 ∷ []) 35 shows refused 6 (lent 35 ∷ [])
-    ∷ restoringIn 1 1 (templateBy 1 0 32 1 32 0 0 0 4 0) 1 (0x0A ∷ 0x82 ∷ []) 35 shows refused 5 (lent 35 ∷ [])
-    ∷ restoringIn 1 1 (templateBy 1 0 8 1 32 0 0 0 4 0) 1 (0x0A ∷ 0x82 ∷ []) 35 shows refused 7 (lent 35 ∷ [])
-    ∷ restoringIn 1 1 (templateBy 1 0 8 1 32 0 0 0 4 0) 1 (0x0A ∷ 0x82 ∷ 0x00 ∷ []) 35 shows refused 8 (lent 35 ∷ [])
-    ∷ restoringIn 1 1 (templateBy 1 0 8 1 3 0 0 0 4 0) 1 (0x0A ∷ 0x82 ∷ 0x00 ∷ []) 35 shows refused 7 (lent 35 ∷ [])
-    ∷ restoringIn 1 1 (templateBy 1 0 8 1 3 0 0 0 4 0) 1 (0x0A ∷ 0x82 ∷ 0x00 ∷ 0x0C ∷ 0x50 ∷ []) 35
+    ∷ restoringIn 0 0 (templateBy 0 3 32 0 32 0 0 0 4 0) 5 [] 35 shows refused 3 (lent 35 ∷ [])
+    ∷ restoringIn 1 0 (templateBy 0 3 32 0 32 0 0 0 4 0) 5 [] 35 shows refused 1 (lent 35 ∷ [])
+    ∷ restoringIn 1 0 (templateBy 1 3 32 0 32 0 0 0 4 0) 5 [] 35 shows refused 2 (lent 35 ∷ [])
+    ∷ restoringIn 1 0 (templateBy 1 0 32 0 32 0 0 0 4 0) 5 [] 35 shows refused 4 (lent 35 ∷ [])
+    ∷ restoringIn 1 1 (templateBy 1 0 32 0 32 0 0 0 4 0) 5 [] 35 shows refused 7 (lent 35 ∷ [])
+    ∷ restoringIn 1 1 (templateBy 1 0 32 0 32 0 0 0 4 0) 5 (0x0A ∷ 0x82 ∷ []) 35 shows refused 6 (lent 35 ∷ [])
+    ∷ restoringIn 1 1 (templateBy 1 0 32 1 32 0 0 0 4 0) 5 (0x0A ∷ 0x82 ∷ []) 35 shows refused 5 (lent 35 ∷ [])
+    ∷ restoringIn 1 1 (templateBy 1 0 8 1 32 0 0 0 4 0) 5 (0x0A ∷ 0x82 ∷ []) 35 shows refused 7 (lent 35 ∷ [])
+    ∷ restoringIn 1 1 (templateBy 1 0 8 1 32 0 0 0 4 0) 5 (0x0A ∷ 0x82 ∷ 0x00 ∷ []) 35 shows refused 8 (lent 35 ∷ [])
+    ∷ restoringIn 1 1 (templateBy 1 0 8 1 3 0 0 0 4 0) 5 (0x0A ∷ 0x82 ∷ 0x00 ∷ []) 35 shows refused 7 (lent 35 ∷ [])
+    ∷ restoringIn 1 1 (templateBy 1 0 8 1 3 0 0 0 4 0) 5 (0x0A ∷ 0x82 ∷ 0x00 ∷ 0x0C ∷ 0x50 ∷ []) 35
     shows refused 9 (lent 35 ∷ [])
     ∷ restoringIn 1 1 (templateBy 1 0 8 1 3 0 0 0 4 0) 4 (0x0A ∷ 0x82 ∷ 0x00 ∷ 0x0C ∷ 0x50 ∷ []) 35
     shows refused 10 (lent 35 ∷ [])
     ∷ restoringIn 1 1 (templateBy 1 0 8 1 3 0 0 0 4 0) 4 (0x0A ∷ 0x82 ∷ 0x00 ∷ 0x0C ∷ 0x50 ∷ []) 36
     shows points (number 10 ∷ number 11 ∷ number 9 ∷ number 12 ∷ [])
     -- run-length
-    ∷ unrollingIn 0 9 1 (0xCB ∷ []) 5 shows refused 5 (lent 5 ∷ [])
-    ∷ unrollingIn 16 9 1 (0xCB ∷ []) 5 shows refused 5 (lent 5 ∷ [])
-    ∷ unrollingIn 4 16 1 (0xCB ∷ []) 5 shows refused 5 (lent 5 ∷ [])
-    ∷ unrollingIn 4 9 1 (0xCB ∷ []) 5 shows refused 11 (lent 5 ∷ [])
-    ∷ unrollingIn 4 9 1 (0x3C ∷ []) 5 shows refused 9 (lent 5 ∷ [])
+    ∷ unrollingIn 0 9 4 (0xCB ∷ []) 5 shows refused 5 (lent 5 ∷ [])
+    ∷ unrollingIn 16 9 4 (0xCB ∷ []) 5 shows refused 5 (lent 5 ∷ [])
+    ∷ unrollingIn 4 16 4 (0xCB ∷ []) 5 shows refused 5 (lent 5 ∷ [])
+    ∷ unrollingIn 4 9 4 (0xCB ∷ []) 5 shows refused 11 (lent 5 ∷ [])
+    ∷ unrollingIn 4 9 4 (0x3C ∷ []) 5 shows refused 9 (lent 5 ∷ [])
     ∷ unrollingIn 4 9 3 (0x3C ∷ []) 5 shows refused 10 (lent 5 ∷ [])
     ∷ unrollingIn 4 9 3 (0x3C ∷ []) 6 shows levels (3 ∷ 3 ∷ 3 ∷ [])
     -- bit reader
@@ -67,13 +71,40 @@ sentences =
     ∷ writing (256 ∷ []) 8 8 0 shows refused 5 ([] ∷ [])
     ∷ writing (32 ∷ []) 7 5 1 shows refused 13 (lent 1 ∷ [])
     ∷ writing (31 ∷ []) 7 5 1 shows refused 10 (lent 1 ∷ [])
-    -- packing; what 10 leaves
-    ∷ packing 0 (2147483648 ∷ []) 0 0 shows refused 13 ([] ∷ [] ∷ lent summarySize ∷ [])
-    ∷ packing 1 (5 ∷ 6 ∷ 5 ∷ 7 ∷ []) 2 2
-    shows refused 10 (flatMap inFours (group 0 1 5 0 ∷ group 1 1 6 0 ∷ []) ∷ lent 2 ∷ lent summarySize ∷ [])
+    -- packing; what 10 leaves, that for the 40 octets nothing
+    ∷ packingIn 0 (5 ∷ 6 ∷ 5 ∷ 7 ∷ []) 2 1 39 shows refused 13 (lent 32 ∷ lent 1 ∷ lent 39 ∷ [])
+    ∷ packingIn 1 (5 ∷ 6 ∷ 5 ∷ 7 ∷ []) 2 1 39 shows refused 10 (lent 32 ∷ lent 1 ∷ lent 39 ∷ [])
+    ∷ packing 1 (5 ∷ 6 ∷ 5 ∷ 7 ∷ []) 2 1
+    shows refused 10 (flatMap inFours (group 0 1 5 0 ∷ group 1 1 6 0 ∷ []) ∷ lent 1 ∷ lent summarySize ∷ [])
     ∷ packing 1 (5 ∷ 6 ∷ 5 ∷ 7 ∷ []) 4 1
     shows refused 10 (flatMap inFours (group 0 1 5 0 ∷ group 1 1 6 0 ∷ group 2 1 5 0 ∷ group 3 1 7 0 ∷ []) ∷ lent 1 ∷ lent summarySize ∷ [])
-    -- the bit writer
+    -- limits, on both sides where the lists are short enough
+    -- 3: "not 1 or 2"; 4: "not 1 to 4"
+    ∷ restoringIn 3 1 (template 0 0 1 3 0 0 0 4 0) 4 (0x0A ∷ 0x82 ∷ 0x0C ∷ 0x50 ∷ []) 36 shows refused 3 (lent 36 ∷ [])
+    ∷ restoringIn 1 5 (template 0 0 1 3 0 0 0 4 0) 4 (0x0A ∷ 0x82 ∷ 0x0C ∷ 0x50 ∷ []) 36 shows refused 4 (lent 36 ∷ [])
+    -- 5: "width or length bits above 32"; "run-length b not 1 to 15"
+    ∷ unpacking (template 0 0 1 0 32 0 0 1 0) 1 (0 ∷ 0 ∷ 0 ∷ 0 ∷ []) shows points (number 0 ∷ [])
+    ∷ unpacking (template 0 0 1 0 33 0 0 1 0) 1 (0 ∷ 0 ∷ 0 ∷ 0 ∷ 0 ∷ []) shows refused 5 (lent 9 ∷ [])
+    ∷ unrolling 15 32767 1 (0xFF ∷ 0xFE ∷ []) shows levels (32767 ∷ [])
+    -- 6 and 9: "above 4,194,304"
+    ∷ unpackingIn (template 0 0 4194305 0 1 0 0 0 0) 0 [] 0 shows refused 6 (lent 0 ∷ [])
+    ∷ unpackingIn (template 0 0 4194304 0 1 0 0 0 0) 0 [] 0 shows refused 7 (lent 0 ∷ [])
+    ∷ unpackingIn (template 0 0 1 0 0 0 0 4194305 0) 4194305 [] 0 shows refused 9 (lent 0 ∷ [])
+    ∷ unpackingIn (template 0 0 1 0 0 0 0 4194304 0) 4194304 [] 0 shows refused 10 (lent 0 ∷ [])
+    -- 8: "a length other than the last above 4,294,967,295"
+    ∷ unpackingIn (template 0 0 2 0 0 4294967295 1 0 1) 0 (0x80 ∷ []) 0 shows refused 8 (lent 0 ∷ [])
+    ∷ unpackingIn (template 0 0 2 0 0 4294967295 1 0 1) 0 (0x00 ∷ []) 0 shows refused 9 (lent 0 ∷ [])
+    ∷ unpackingIn (template 0 0 2 0 0 0 1 4294967296 1) 0 (0x00 ∷ []) 0 shows refused 9 (lent 0 ∷ [])
+    -- 13: "lookahead outside 1 to 65,535"
+    ∷ grouping 65535 (0 ∷ []) 4 shows answered (1 ∷ []) (group 0 1 0 0 ∷ [])
+    ∷ grouping 65536 (0 ∷ []) 4 shows refused 13 (lent 4 ∷ [])
+    -- the bit reader: "width 0 reads zeros and no octets"; widths as far as 32, a starting bit as far as 7
+    ∷ readingIn [] 7 0 3 4 shows numbers (0 ∷ 0 ∷ 0 ∷ 255 ∷ [])
+    ∷ readingIn [] 0 0 3 2 shows refused 10 (lent 2 ∷ [])
+    ∷ readingIn (0x01 ∷ 0xFF ∷ 0xFF ∷ 0xFF ∷ 0xFE ∷ []) 7 32 1 1 shows numbers (4294967295 ∷ [])
+    -- the bit writer: "widths 1 to 32"
+    ∷ writing (0 ∷ []) 0 0 1 shows refused 5 (lent 1 ∷ [])
+    ∷ writing (4294967295 ∷ []) 7 32 5 shows spanned 5 (0xFF ∷ 0xFF ∷ 0xFF ∷ 0xFF ∷ 0xFE ∷ [])
     ∷ writing (5 ∷ 6 ∷ 5 ∷ 7 ∷ []) 0 3 3 shows spanned 2 (0xBA ∷ 0xF0 ∷ 0xFF ∷ [])
     ∷ writing (29 ∷ 15 ∷ []) 2 5 3 shows spanned 2 (0xFA ∷ 0xF0 ∷ 0xFF ∷ [])
     ∷ writing [] 2 5 3 shows spanned 0 (0xFF ∷ 0xFF ∷ 0xFF ∷ [])
@@ -81,8 +112,10 @@ sentences =
     -- "Length = length code × increment + length reference"
     ∷ unpacking (template 0 3 3 1 0 2 2 1 1) 7 (0xA3 ∷ 0x80 ∷ 0x40 ∷ 0x6A ∷ [])
     shows points (number 5 ∷ number 6 ∷ number 1 ∷ number 0 ∷ number 1 ∷ number 0 ∷ number 8 ∷ [])
-    ∷ packing 1 (0 ∷ 0 ∷ 8 ∷ 8 ∷ 8 ∷ 8 ∷ 0 ∷ []) 3 3
-    shows packs (4 ∷ 3 ∷ 0 ∷ 0 ∷ 2 ∷ 2 ∷ 1 ∷ 1 ∷ []) (0x08 ∷ 0x00 ∷ 0x40 ∷ []) (group 0 2 0 0 ∷ group 2 4 8 0 ∷ group 6 1 0 0 ∷ [])
+    -- "take all lengths but the last"; "The last length code is written 0."; "the greatest divisor of it that is at most 255"
+    ∷ packing 1 (0 ∷ 0 ∷ 8 ∷ 8 ∷ 8 ∷ 8 ∷ 0 ∷ 0 ∷ 0 ∷ 0 ∷ 0 ∷ []) 3 3
+    shows packs (4 ∷ 3 ∷ 0 ∷ 0 ∷ 2 ∷ 2 ∷ 5 ∷ 1 ∷ []) (0x08 ∷ 0x00 ∷ 0x40 ∷ []) (group 0 2 0 0 ∷ group 2 4 8 0 ∷ group 6 5 0 0 ∷ [])
+    ∷ answered (map incrementOf (0 ∷ 255 ∷ 256 ∷ 257 ∷ 510 ∷ [])) [] shows answered (0 ∷ 255 ∷ 128 ∷ 1 ∷ 255 ∷ []) []
     -- first values have no sign; "Missing points do not advance this."
     ∷ restoring 2 4 (template 0 31 1 0 0 0 0 4 0) 4 (0x80 ∷ 0 ∷ 0 ∷ 0 ∷ 0 ∷ 0 ∷ 0 ∷ 1 ∷ 0x80 ∷ 0 ∷ 0 ∷ 0 ∷ 0 ∷ 0 ∷ 0 ∷ 0 ∷ [])
     shows points (number 2147483648 ∷ number 1 ∷ Normal (negsuc 2147483645) ∷ Normal (negsuc 4294967292) ∷ [])
@@ -111,8 +144,17 @@ sentences =
     -- groups by themselves, in lent numbers; "spare octets short of a whole one are not used"
     ∷ grouping 2 (0 ∷ 0 ∷ 0 ∷ 0 ∷ 8 ∷ 8 ∷ 8 ∷ []) 9 shows answered (2 ∷ []) ((group 0 4 0 0 ++ group 4 3 8 0 ++ lent 1) ∷ [])
     ∷ grouping 2 (0 ∷ 0 ∷ 0 ∷ 0 ∷ 8 ∷ 8 ∷ 8 ∷ []) 7 shows refused 10 ((group 0 4 0 0 ++ lent 3) ∷ [])
-    ∷ grouping 65536 (0 ∷ []) 4 shows refused 13 (lent 4 ∷ [])
     ∷ answered (numbersIn (0 ∷ 0 ∷ 1 ∷ 5 ∷ 9 ∷ 9 ∷ 9 ∷ [])) [] shows answered (261 ∷ []) []
+    -- "a point there is nine octets, the mark and then the number, big-endian two's complement"; "a missing point holds number 0"
+    ∷ answered (flatMap pointOctets (number 258 ∷ Normal (negsuc 1) ∷ Missing1 ∷ Missing2 ∷ [])) []
+    shows answered
+    (0 ∷ 0 ∷ 0 ∷ 0 ∷ 0 ∷ 0 ∷ 0 ∷ 1 ∷ 2
+    ∷ 0 ∷ 255 ∷ 255 ∷ 255 ∷ 255 ∷ 255 ∷ 255 ∷ 255 ∷ 254
+    ∷ 1 ∷ 0 ∷ 0 ∷ 0 ∷ 0 ∷ 0 ∷ 0 ∷ 0 ∷ 0
+    ∷ 2 ∷ 0 ∷ 0 ∷ 0 ∷ 0 ∷ 0 ∷ 0 ∷ 0 ∷ 0 ∷ [])
+    []
+    -- "A number to pack and each of a group's four numbers take four octets, a level two"
+    ∷ answered (inFours (16909060 ∷ []) ++ levelOctets 258) [] shows answered (1 ∷ 2 ∷ 3 ∷ 4 ∷ 1 ∷ 2 ∷ []) []
     -- run-length: no repeat codes; a base of one; "fewer than b bits at the end are ignored"
     ∷ unrolling 4 15 2 (0x3F ∷ []) shows levels (3 ∷ 15 ∷ [])
     ∷ unrolling 4 14 2 (0x3F ∷ 0xE0 ∷ []) shows refused 9 (lent 4 ∷ [])
@@ -124,3 +166,14 @@ sentences =
 pub all-hold : AllHold sentences
 unfolding listed referenceOf total joined anyOf greatest least flatMap first bitIn numberOf spanOf readField writeField widthsAt lengthsAt valuesAt codesOf saidBy groupWidth groupLength pointsBefore bitsBefore wrongGroup decoded pointOf pointAt pointsUpTo placesOf locate52 unpack52 descriptorsOf raised expected restored beyond points53 locate53 left53 unpack53 codesLeft levelsOf repeatsFirst levelsIn runLength digitsIn bits widthOf endsBefore groupsFrom groupsOf recordsFrom groupNumbersOf widthCoding gcdIn gcd gcdFrom divisorUpTo incrementOf butLast lengthCoding templateOf lengthCodes valueString payloadOf packingOf pack
 all-hold = refl
+
+-- 13: "above 4,194,304 numbers" is too long a list to compute. The rows that n zeros meet with lookahead 1, whatever n is:
+zeros-small : (n : ℕ) → anyOf (ltb 2147483647) (replicate n 0) ≡ false
+unfolding anyOf
+zeros-small zero = refl
+zeros-small (suc n) = zeros-small n
+
+pub rows-of-zeros : (n : ℕ) →
+    numberRefusals 1 (replicate n 0)
+    ≡ (eqb n 0 gives Numbers ∷ ltb 4194304 n gives Numbers ∷ false gives Numbers ∷ false gives Numbers ∷ false gives Numbers ∷ [])
+rows-of-zeros n = simp (length-replicate {A = ℕ} n 0, zeros-small n)
