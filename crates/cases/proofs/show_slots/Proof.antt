@@ -1,10 +1,10 @@
--- `packings::show_slots` meets its contract. Assumes nothing.
+-- `cases::show_slots` meets its contract. Assumes nothing.
 use Prim.Native.Nat.{_-_, _≤_}
 use lib.ListN.{length}
 use native.Mathlib.Omega.{arith}
 use borrow.Author.Needs.{needs}
-use Rattle.packings.proofs.show_slots.Statement.{statement}
-use Rattle.packings.proofs.show_slots.Tie as tie
+use Rattle.cases.proofs.show_slots.Statement.{statement}
+use Rattle.cases.proofs.show_slots.Tie as tie
 
 abbrev Inv-loop : tie.InvT-loop
 Inv-loop slots k₀ k = k ≤ length slots
