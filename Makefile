@@ -1,10 +1,11 @@
 # Needs the Rattle toolchain (rt), and cargo for the host and the oracle, on the PATH. RT_JOBS is how many proofs run at a
-# time. Cargo uses no registry.
-export RT_JOBS := $(shell nproc)
+# time: rt starts them in batches and waits for the slowest of each, so twice as many as there are processors keep all of
+# them at work. Cargo uses no registry.
+export RT_JOBS := $(shell expr 2 \* $$(nproc))
 CARGO := cargo --offline --quiet
 
 .NOTPARALLEL:
-.PHONY: desk test host compare hostile oracle freeze bench check fmt clean
+.PHONY: desk test linked host compare hostile oracle freeze bench check fmt clean
 
 # The main job: the archive and the host, and with them a day at the desk on the maps of samples/.
 desk:
@@ -12,13 +13,16 @@ desk:
 		echo "The first time, the crates under the C calls are proved, which takes minutes." >&2
 	@cd host && $(CARGO) run --release --bin desk -- day --samples ../samples
 
-# All checks: the layout of the files; the host's tests through the C calls; the live comparison with the Rust, where its
-# text is there; then, from nothing, every crate, every must-fail edit and every program. rt ci comes last, so that its
-# 'N passed, 0 failed' is the last line.
+# All checks: the layout of the files; from nothing, every crate, every must-fail edit and every program; then, over what has
+# just been proved, what links the archive. The last line of rt ci, 'N passed, 0 failed', is printed last, if all passed.
 test:
 	@rt fmt --check
-	@$(MAKE) --no-print-directory host compare
-	@rt ci
+	@sh verdict.sh $(MAKE) --no-print-directory linked
+
+# The host's tests and the comparison, with one archive for both.
+linked:
+	@rt staticlib cleatmow
+	@CLEATMOW_ARCHIVE_DIR=../target/staticlib $(MAKE) --no-print-directory host compare
 
 # The Rust host: it makes the archive of the C calls, links it and tests it.
 host:
