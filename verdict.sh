@@ -8,7 +8,14 @@ trap 'rm -rf "$kept"' EXIT
 {
     rt ci
     echo $? >"$kept/status"
-} | awk -v last="$kept/last" 'NR > 1 { print line; fflush() } { line = $0 } END { print line >last }'
+} | {
+    IFS= read -r held
+    while IFS= read -r line; do
+        printf '%s\n' "$held"
+        held=$line
+    done
+    printf '%s\n' "$held" >"$kept/last"
+}
 status=$(cat "$kept/status") || exit 2
 if [ "$status" -eq 0 ]; then
     "$@" || exit

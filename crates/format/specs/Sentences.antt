@@ -116,6 +116,11 @@ sentences =
     ∷ packing 1 (0 ∷ 0 ∷ 8 ∷ 8 ∷ 8 ∷ 8 ∷ 0 ∷ 0 ∷ 0 ∷ 0 ∷ 0 ∷ []) 3 3
     shows packs (4 ∷ 3 ∷ 0 ∷ 0 ∷ 2 ∷ 2 ∷ 5 ∷ 1 ∷ []) (0x08 ∷ 0x00 ∷ 0x40 ∷ []) (group 0 2 0 0 ∷ group 2 4 8 0 ∷ group 6 5 0 0 ∷ [])
     ∷ answered (map incrementOf (0 ∷ 255 ∷ 256 ∷ 257 ∷ 510 ∷ [])) [] shows answered (0 ∷ 255 ∷ 128 ∷ 1 ∷ 255 ∷ []) []
+    -- "Values follow group after group with no alignment between them.": groups of widths 1, 2 and 0
+    ∷ packing 2 (0 ∷ 1 ∷ 8 ∷ 10 ∷ 1 ∷ []) 3 4
+    shows packs (4 ∷ 3 ∷ 0 ∷ 2 ∷ 2 ∷ 0 ∷ 1 ∷ 0 ∷ []) (0x08 ∷ 0x10 ∷ 0x60 ∷ 0x48 ∷ []) (group 0 2 0 1 ∷ group 2 2 8 2 ∷ group 4 1 1 0 ∷ [])
+    ∷ unpacking (template 0 4 3 0 2 2 0 1 0) 5 (0x08 ∷ 0x10 ∷ 0x60 ∷ 0x48 ∷ [])
+    shows points (number 0 ∷ number 1 ∷ number 8 ∷ number 10 ∷ number 1 ∷ [])
     -- first values have no sign; "Missing points do not advance this."
     ∷ restoring 2 4 (template 0 31 1 0 0 0 0 4 0) 4 (0x80 ∷ 0 ∷ 0 ∷ 0 ∷ 0 ∷ 0 ∷ 0 ∷ 1 ∷ 0x80 ∷ 0 ∷ 0 ∷ 0 ∷ 0 ∷ 0 ∷ 0 ∷ 0 ∷ [])
     shows points (number 2147483648 ∷ number 1 ∷ Normal (negsuc 2147483645) ∷ Normal (negsuc 4294967292) ∷ [])
