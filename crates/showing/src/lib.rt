@@ -39,7 +39,7 @@ fn show_signed(pattern: u64) {
 
 // "A point there is nine octets, the mark and then the number, big-endian two's complement. A number to pack and each of a
 // group's four numbers take four octets, a level two." What has another size is shown octet by octet.
-pub fn show_thing(octets: &[u8]) {
+fn show_thing(octets: &[u8]) {
     let size = octets.len();
     if size == 9 {
         io::write_all(STDOUT_FILENO, b";");
