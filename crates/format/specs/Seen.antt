@@ -11,7 +11,7 @@ use Rattle.format.specs.Unpacking.{unpack52}
 use Rattle.format.specs.Differences.{unpack53}
 use Rattle.format.specs.RunLength.{runLength}
 use Rattle.format.specs.Grouping.{groupNumbersOf}
-use Rattle.format.specs.Packing.{summarySize, pack}
+use Rattle.format.specs.Packing.{Packing, summarySize, pack}
 use Rattle.format.specs.declared.Template.{Template}
 use Rattle.format.specs.declared.DecodedValue.{DecodedValue}
 use Rattle.format.specs.declared.DecodedValue.the-variants.{Normal}
@@ -172,6 +172,10 @@ packedAnswers (packed.Payload t octets) =
     t .width ∷ t .groups ∷ t .widths .reference ∷ t .widths .bits ∷ t .lengths .reference ∷ t .lengths .increment
     ∷ t .lengths .last ∷ t .lengths .bits ∷ octets .0 ∷ []
 packedAnswers (packed.Refused r) = []
+
+-- what no call hands over: splitting method, missing management and the two missing values
+abbrev pub kindNumbers : Packing → List ℕ
+kindNumbers p = p .template .splitting ∷ p .template .management ∷ p .primaryMissing ∷ p .secondaryMissing ∷ []
 
 -- room for g groups, n octets of payload and so many of the summary
 abbrev pub packingIn : ℕ → List ℕ → ℕ → ℕ → ℕ → Seen

@@ -6,7 +6,7 @@ use Prim.Native.Nat.{ℕ, zero, suc, _+_, _^_}
 use lib.Dec.{eqb, ltb}
 use lib.ListN.{replicate, length-replicate}
 use lib.IntN.{pos, negsuc, negℤ}
-use Rattle.format.specs.Seen.{Case, _shows_, AllHold, lent, refused, answered, numbers, spanned, number, points, levels, group, packs, readingIn, writing, templateBy, template, unpacks, unpackingIn, unpacking, restoringIn, restoring, locates, unrollingIn, unrolling, grouping, packingIn, packing}
+use Rattle.format.specs.Seen.{Case, _shows_, AllHold, lent, refused, answered, numbers, spanned, number, points, levels, group, packs, readingIn, writing, templateBy, template, unpacks, unpackingIn, unpacking, restoringIn, restoring, locates, unrollingIn, unrolling, grouping, kindNumbers, packingIn, packing}
 use Rattle.format.specs.Lists.{listed, total, joined, anyOf, greatest, least}
 use Rattle.format.specs.Refusals.{_gives_, first}
 use Rattle.format.specs.Bits.{bitIn, numberOf, spanOf, readField, writeField}
@@ -121,6 +121,12 @@ sentences =
     shows packs (4 ∷ 3 ∷ 0 ∷ 2 ∷ 2 ∷ 0 ∷ 1 ∷ 0 ∷ []) (0x08 ∷ 0x10 ∷ 0x60 ∷ 0x48 ∷ []) (group 0 2 0 1 ∷ group 2 2 8 2 ∷ group 4 1 1 0 ∷ [])
     ∷ unpacking (template 0 4 3 0 2 2 0 1 0) 5 (0x08 ∷ 0x10 ∷ 0x60 ∷ 0x48 ∷ [])
     shows points (number 0 ∷ number 1 ∷ number 8 ∷ number 10 ∷ number 1 ∷ [])
+    -- "Width reference = least group width; width bits = bits(greatest − least)."; "Width = width code + width reference."
+    ∷ answered (widthCoding (4 ∷ 3 ∷ []) .reference ∷ widthCoding (4 ∷ 3 ∷ []) .bits ∷ []) [] shows answered (3 ∷ 1 ∷ []) []
+    ∷ answered (packingOf (0 ∷ 1 ∷ 8 ∷ 11 ∷ []) ((0 ∷ 1 ∷ []) ∷ (8 ∷ 11 ∷ []) ∷ []) .payload) [] shows answered (0x08 ∷ 0x40 ∷ 0x4C ∷ []) []
+    ∷ unpacking (template 0 4 2 1 1 2 0 2 0) 4 (0x08 ∷ 0x40 ∷ 0x4C ∷ []) shows points (number 0 ∷ number 1 ∷ number 8 ∷ number 11 ∷ [])
+    -- "Splitting method 1, missing management 0, both missing values 0xffffffff."
+    ∷ answered (kindNumbers (packingOf (1 ∷ []) ((1 ∷ []) ∷ []))) [] shows answered (1 ∷ 0 ∷ 0xffffffff ∷ 0xffffffff ∷ []) []
     -- first values have no sign; "Missing points do not advance this."
     ∷ restoring 2 4 (template 0 31 1 0 0 0 0 4 0) 4 (0x80 ∷ 0 ∷ 0 ∷ 0 ∷ 0 ∷ 0 ∷ 0 ∷ 1 ∷ 0x80 ∷ 0 ∷ 0 ∷ 0 ∷ 0 ∷ 0 ∷ 0 ∷ 0 ∷ [])
     shows points (number 2147483648 ∷ number 1 ∷ Normal (negsuc 2147483645) ∷ Normal (negsuc 4294967292) ∷ [])
