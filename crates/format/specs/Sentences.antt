@@ -109,6 +109,9 @@ sentences =
     ∷ writing (29 ∷ 15 ∷ []) 2 5 3 shows spanned 2 (0xFA ∷ 0xF0 ∷ 0xFF ∷ [])
     ∷ writing [] 2 5 3 shows spanned 0 (0xFF ∷ 0xFF ∷ 0xFF ∷ [])
     ∷ writing (31 ∷ []) 7 5 2 shows spanned 2 (0xFF ∷ 0xF0 ∷ [])
+    -- "value 2^w − 1 is missing 1 if m > 0; else 2^w − 2 is missing 2 if m = 2", in a group wide enough to tell them from 0 and 1
+    ∷ unpacking (template 2 0 1 2 0 0 0 4 0) 4 (0x1B ∷ []) shows points (number 0 ∷ number 1 ∷ Missing2 ∷ Missing1 ∷ [])
+    ∷ unpacking (template 1 0 1 2 0 0 0 4 0) 4 (0x1B ∷ []) shows points (number 0 ∷ number 1 ∷ number 2 ∷ Missing1 ∷ [])
     -- "Length = length code × increment + length reference"
     ∷ unpacking (template 0 3 3 1 0 2 2 1 1) 7 (0xA3 ∷ 0x80 ∷ 0x40 ∷ 0x6A ∷ [])
     shows points (number 5 ∷ number 6 ∷ number 1 ∷ number 0 ∷ number 1 ∷ number 0 ∷ number 8 ∷ [])
