@@ -4,11 +4,9 @@
 ghost use Prim.Native.Nat.{_+_, _<_, _≤_};
 ghost use lib.ListN.{length};
 use format::Grouped;
-use format::Lengths;
+use format::POINT_SIZE;
 use format::Part;
-use format::Refusal;
 use format::Template;
-use format::Widths;
 use libc::STDIN_FILENO;
 use libc::STDOUT_FILENO;
 
@@ -26,25 +24,19 @@ fn room_of(number: u32, most: usize) -> usize
 
 // "Template numbers are listed as: number width; groups; width reference, width bits; length reference, increment, last, bits."
 // Then splitting method and missing management.
-fn template_of(numbers: &[u32; 16]) -> Template {
-    let widths = Widths {
-        reference: octet(numbers[5]),
-        bits: octet(numbers[6]),
-    };
-    let lengths = Lengths {
-        reference: numbers[7],
-        increment: octet(numbers[8]),
-        last: numbers[9],
-        bits: octet(numbers[10]),
-    };
-    Template {
-        width: octet(numbers[3]),
-        splitting: octet(numbers[11]),
-        management: octet(numbers[12]),
-        groups: numbers[4],
-        widths,
-        lengths,
-    }
+fn template_in(numbers: &[u32; 16]) -> Template {
+    layout::template_by(
+        octet(numbers[3]),
+        octet(numbers[11]),
+        octet(numbers[12]),
+        numbers[4],
+        octet(numbers[5]),
+        octet(numbers[6]),
+        numbers[7],
+        octet(numbers[8]),
+        numbers[9],
+        octet(numbers[10]),
+    )
 }
 
 // "The call returns the refusal's number, or 0."
@@ -122,8 +114,8 @@ fn zero_point(point: &[u8]) -> u64
 fn zero_points(points: &[u8]) -> u64 {
     let mut count = 0u64;
     let mut k = 0usize;
-    while k < points.len() / 9 {
-        count += zero_point(&points[k * 9..k * 9 + 9]);
+    while k < points.len() / POINT_SIZE {
+        count += zero_point(&points[k * POINT_SIZE..k * POINT_SIZE + POINT_SIZE]);
         k += 1;
     }
     count
@@ -131,9 +123,9 @@ fn zero_points(points: &[u8]) -> u64 {
 
 // Of many points: the last one, a spare octet, and how many have mark 0 and number 0.
 fn show_many(points: &[u8]) {
-    let whole = points.len() / 9 * 9;
-    if 9 <= whole {
-        showing::show_all(&points[whole - 9..], 9);
+    let whole = points.len() / POINT_SIZE * POINT_SIZE;
+    if POINT_SIZE <= whole {
+        showing::show_all(&points[whole - POINT_SIZE..], POINT_SIZE);
     }
     io::write_all(STDOUT_FILENO, b"; zeros");
     showing::show(zero_points(points));
@@ -143,7 +135,7 @@ fn restore(numbers: &[u32; 16], payload: &[u8], points: &mut [u8]) {
     let order = octet(numbers[13]);
     let octets = octet(numbers[14]);
     unpack_spatial(
-        template_of(numbers),
+        template_in(numbers),
         order,
         octets,
         numbers[2],
@@ -156,12 +148,12 @@ fn answer_in(word: u8, numbers: &[u32; 16], payload: &[u8], lent: &mut [u8]) {
     match word {
         b'r' => unroll(numbers, payload, lent),
         b'c' => {
-            unpack_complex(template_of(numbers), numbers[2], payload, lent);
-            showing::show_all(lent, 9);
+            unpack_complex(template_in(numbers), numbers[2], payload, lent);
+            showing::show_all(lent, POINT_SIZE);
         }
         b's' => {
             restore(numbers, payload, lent);
-            showing::show_all(lent, 9);
+            showing::show_all(lent, POINT_SIZE);
         }
         b'm' => {
             restore(numbers, payload, lent);
@@ -229,22 +221,14 @@ fn show_slots(slots: &[u32]) {
     }
 }
 
-// Grouping is refused by 10 and 13 alone. Its group count is shown behind the slots.
-fn number_of(refusal: Refusal) -> u32 {
-    match refusal {
-        Refusal::Room => 10,
-        Refusal::Numbers => 13,
-        _ => 0,
-    }
-}
-
+// The group count is shown behind the slots.
 fn group_in(lookahead: u32, list: &[u8], slots: &mut [u32]) {
     match grouping::groups_of(list, lookahead, slots) {
         Grouped::Groups(count) => {
             show_answer(0);
             show_slot(count);
         }
-        Grouped::Refused(refusal) => show_answer(number_of(refusal)),
+        Grouped::Refused(refusal) => show_answer(cleatmow::refusal_number(refusal)),
     }
     io::write_all(STDOUT_FILENO, b";");
     show_slots(slots);
@@ -259,7 +243,7 @@ fn group(numbers: &[u32; 16], list: &[u8]) {
 
 fn answer(word: u8, numbers: &[u32; 16], octets: &[u8]) {
     match word {
-        b'f' => show_parts(template_of(numbers), octets),
+        b'f' => show_parts(template_in(numbers), octets),
         b'p' => pack(numbers, octets),
         b'g' => group(numbers, octets),
         _ => lend(word, numbers, octets),

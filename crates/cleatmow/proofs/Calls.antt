@@ -6,7 +6,7 @@ use Rattle.format.specs.Refusals.{Left, left, refusalNumber, unpackedNumber, un
 use Rattle.format.specs.declared.Refusal.{Refusal}
 use Rattle.format.specs.Unpacking.{unpack52}
 use Rattle.format.specs.Differences.{unpack53}
-use Rattle.format.specs.Packing.{Parcelled}
+use Rattle.format.specs.Packing.{LeftPacked}
 use Rattle.format.specs.declared.OctetPlace.{OctetPlace}
 use Rattle.format.specs.declared.Packed.{Packed}
 use Rattle.format.specs.declared.Packed.the-variants as packed
@@ -35,7 +35,7 @@ module _ (declared : ℕ) (payload lent : List ℕ) (asked : Template) {t : Temp
   pub spatial-called : (d : Differencing) → left answer buffer ≡ unpack53 t d declared payload lent → left n buffer ≡ called unpackedNumber (unpack53 asked d declared payload lent)
   spatial-called d e = called-is unpackedNumber (unpack53 asked d declared payload lent) (rw et at e) en
 
-module _ (outcome : Parcelled) {answer : Packed} {groups payload summary : List ℕ}
+module _ (outcome : LeftPacked) {answer : Packed} {groups payload summary : List ℕ}
     (e : record { answer = answer; groups = groups; payload = payload; summary = summary } ≡ outcome) where
   pub pack-done : {t : Template} {octets : OctetPlace} → answer ≡ packed.Payload t octets
       → record { number = 0; groups = groups; payload = payload; summary = summary } ≡ calledPack outcome

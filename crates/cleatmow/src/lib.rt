@@ -2,23 +2,21 @@
 // so the names of the header are shortened here.
 ghost use mathlib.Core.Path.{_≡_};
 ghost use Rattle.format.specs.Refusals.{refusalNumber, unpackedNumber, unrolledNumber, left};
+ghost use Rattle.format.specs.Template.{templateBy};
 ghost use Rattle.format.specs.Unpacking.{unpack52};
 ghost use Rattle.format.specs.Differences.{unpack53};
 ghost use Rattle.format.specs.RunLength.{runLength};
 ghost use Rattle.format.specs.Layout.{numbersIn};
 ghost use Rattle.format.specs.Packing.{pack};
-ghost use Rattle.cleatmow.specs.Calls.{called, givenTemplate, givenDifferencing, calledPack};
+ghost use Rattle.cleatmow.specs.Calls.{called, givenDifferencing, calledPack};
 use format::Differencing;
-use format::Lengths;
 use format::Packed;
 use format::Refusal;
-use format::Template;
 use format::Unpacked;
 use format::Unrolled;
-use format::Widths;
 
 // "A refusal carries its number and nothing else."
-fn number_of(refusal: Refusal) -> u32
+pub fn refusal_number(refusal: Refusal) -> u32
     ensures { λ r. ⌜ r ≡ refusalNumber refusal ⌝ }
 {
     match refusal {
@@ -38,48 +36,13 @@ fn number_of(refusal: Refusal) -> u32
     }
 }
 
-// The numbers of a template, in Section 5's order.
-fn template_of(
-    bits: u8,
-    splitting: u8,
-    missing: u8,
-    groups: u32,
-    widthref: u8,
-    widthbits: u8,
-    lenref: u32,
-    leninc: u8,
-    lenlast: u32,
-    lenbits: u8,
-) -> Template
-    ensures { λ r. ⌜ r ≡ givenTemplate bits splitting missing groups widthref widthbits lenref leninc lenlast lenbits ⌝ }
-{
-    let widths = Widths {
-        reference: widthref,
-        bits: widthbits,
-    };
-    let lengths = Lengths {
-        reference: lenref,
-        increment: leninc,
-        last: lenlast,
-        bits: lenbits,
-    };
-    Template {
-        width: bits,
-        splitting,
-        management: missing,
-        groups,
-        widths,
-        lengths,
-    }
-}
-
 // "The call returns the refusal's number, or 0."
 fn unpacked_number(unpacked: Unpacked) -> u32
     ensures { λ r. ⌜ r ≡ unpackedNumber unpacked ⌝ }
 {
     match unpacked {
         Unpacked::Points(_) => 0,
-        Unpacked::Refused(refusal) => number_of(refusal),
+        Unpacked::Refused(refusal) => refusal_number(refusal),
     }
 }
 
@@ -100,9 +63,9 @@ pub extern "C" fn cleatmow_unpack_complex(
     payload: &[u8],
     points: &mut [u8],
 ) -> u32
-    ensures { λ r. ⌜ left r (now (points .exit)) ≡ called unpackedNumber (unpack52 (givenTemplate bits splitting missing groups widthref widthbits lenref leninc lenlast lenbits) declared (now (payload .entry)) (now (points .entry))) ⌝ }
+    ensures { λ r. ⌜ left r (now (points .exit)) ≡ called unpackedNumber (unpack52 (templateBy bits splitting missing groups widthref widthbits lenref leninc lenlast lenbits) declared (now (payload .entry)) (now (points .entry))) ⌝ }
 {
-    let template = template_of(
+    let template = layout::template_by(
         bits,
         splitting,
         missing,
@@ -136,9 +99,9 @@ pub extern "C" fn cleatmow_unpack_spatial(
     payload: &[u8],
     points: &mut [u8],
 ) -> u32
-    ensures { λ r. ⌜ left r (now (points .exit)) ≡ called unpackedNumber (unpack53 (givenTemplate bits splitting missing groups widthref widthbits lenref leninc lenlast lenbits) (givenDifferencing order octets) declared (now (payload .entry)) (now (points .entry))) ⌝ }
+    ensures { λ r. ⌜ left r (now (points .exit)) ≡ called unpackedNumber (unpack53 (templateBy bits splitting missing groups widthref widthbits lenref leninc lenlast lenbits) (givenDifferencing order octets) declared (now (payload .entry)) (now (points .entry))) ⌝ }
 {
-    let template = template_of(
+    let template = layout::template_by(
         bits,
         splitting,
         missing,
@@ -167,7 +130,7 @@ pub extern "C" fn cleatmow_run_length(
 {
     match run_length::run_length(bits, greatest, declared, payload, levels) {
         Unrolled::Levels(_) => 0,
-        Unrolled::Refused(refusal) => number_of(refusal),
+        Unrolled::Refused(refusal) => refusal_number(refusal),
     }
 }
 
@@ -184,6 +147,6 @@ pub extern "C" fn cleatmow_pack(
 {
     match encoder::pack(lookahead, numbers, groups, payload, summary) {
         Packed::Payload(_, _) => 0,
-        Packed::Refused(refusal) => number_of(refusal),
+        Packed::Refused(refusal) => refusal_number(refusal),
     }
 }

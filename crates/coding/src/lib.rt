@@ -1,16 +1,17 @@
 // Template numbers of a packing, after the Rust's `ComplexPacking::from` and `OptimalLengthParams`: how the numbers of the
 // groups in a lent list are coded.
 ghost use mathlib.Core.Path.{_≡_};
-ghost use mathlib.Core.List.{map};
-ghost use Prim.Native.Nat.{_*_, _-_, _/_, _<_, _≤_};
+ghost use mathlib.Core.List.{List, map};
+ghost use Prim.Native.Nat.{ℕ, _*_, _-_, _/_, _<_, _≤_};
 ghost use lib.ListN.{length};
-ghost use Rattle.format.specs.Lists.{least};
-ghost use Rattle.format.specs.Layout.{groupSize, groupsIn};
+ghost use Rattle.format.specs.Lists.{greatest, least};
+ghost use Rattle.format.specs.Layout.{groupSize};
 ghost use Rattle.format.specs.Grouping.{bits};
-ghost use Rattle.format.specs.Packing.{gcd, gcdFrom, divisorUpTo, incrementOf, widthCoding, lengthCoding};
+ghost use Rattle.format.specs.Packing.{gcd, gcdFrom, divisorUpTo, incrementOf, widthCoding, lengthCoding, templateOf};
+ghost use Rattle.laws.specs.Groups.{groupsIn, ownGroups, Sound};
 ghost use Rattle.numbers.specs.Windows.{windowOf};
-ghost use Rattle.numbers.specs.Records.{numberOf, codedTemplate};
-ghost use Rattle.coding.specs.Codes.{Coded};
+ghost use Rattle.numbers.specs.Records.{codedNumber};
+ghost use Rattle.coding.specs.Codes.{Recorded};
 use format::Lengths;
 use format::Template;
 use format::Widths;
@@ -20,14 +21,14 @@ use numbers::Window;
 // The least and the greatest of one number of the first groups.
 fn window_over(field: Field, groups: &[u8], count: usize) -> Window
     requires { ⌜ (0 < count) × (count * groupSize ≤ length (now groups)) ⌝ }
-    ensures { λ r. ⌜ r ≡ windowOf (map (numberOf field) (groupsIn (now (groups .entry)) count)) ⌝ }
+    ensures { λ r. ⌜ r ≡ windowOf (map (codedNumber field) (groupsIn (now (groups .entry)) count)) ⌝ }
 {
-    let mut window = numbers::window_of(numbers::number_of(layout::group_in(groups, 0), field));
+    let mut window = numbers::window_of(numbers::coded_number(layout::group_in(groups, 0), field));
     let mut k = 1usize;
     while k < count {
         window = numbers::widened(
             window,
-            numbers::number_of(layout::group_in(groups, k), field),
+            numbers::coded_number(layout::group_in(groups, k), field),
         );
         k += 1;
     }
@@ -43,8 +44,8 @@ fn gcd(a: u32, b: u32) -> u32
 
 // "step = the greatest common divisor [..] of the differences from it"
 fn step_of(groups: &[u8], count: usize, reference: u32) -> u32
-    requires { ⌜ (count * groupSize ≤ length (now groups)) × (reference ≤ least (map (numberOf Field.Lengths) (groupsIn (now groups) count))) ⌝ }
-    ensures { λ r. ⌜ r ≡ gcdFrom 0 (map (λ n. n - reference) (map (numberOf Field.Lengths) (groupsIn (now (groups .entry)) count))) ⌝ }
+    requires { ⌜ (count * groupSize ≤ length (now groups)) × (reference ≤ least (map (codedNumber Field.Lengths) (groupsIn (now groups) count))) ⌝ }
+    ensures { λ r. ⌜ r ≡ gcdFrom 0 (map (λ n. n - reference) (map (codedNumber Field.Lengths) (groupsIn (now (groups .entry)) count))) ⌝ }
 {
     let mut step = 0u32;
     let mut k = 0usize;
@@ -81,8 +82,8 @@ fn increment_of(step: u32) -> u32
 
 // "Width reference = least group width; width bits = bits(greatest − least)."
 fn widths_of(groups: &[u8], count: usize) -> Widths
-    requires { ⌜ Coded (now groups) count ⌝ }
-    ensures { λ r. ⌜ r ≡ widthCoding (map (numberOf Field.Widths) (groupsIn (now (groups .entry)) count)) ⌝ }
+    requires { ⌜ Recorded (now groups) count ⌝ }
+    ensures { λ r. ⌜ r ≡ widthCoding (map (codedNumber Field.Widths) (groupsIn (now (groups .entry)) count)) ⌝ }
 {
     let widths = window_over(Field::Widths, groups, count);
     let reference = widths.least as u8;
@@ -102,8 +103,8 @@ fn length_bits(difference: u32, increment: u32) -> u32
 
 // "With one group, length reference, increment and length bits are 0. Otherwise take all lengths but the last".
 fn lengths_of(groups: &[u8], count: usize) -> Lengths
-    requires { ⌜ Coded (now groups) count ⌝ }
-    ensures { λ r. ⌜ r ≡ lengthCoding (map (numberOf Field.Lengths) (groupsIn (now (groups .entry)) count)) ⌝ }
+    requires { ⌜ Recorded (now groups) count ⌝ }
+    ensures { λ r. ⌜ r ≡ lengthCoding (map (codedNumber Field.Lengths) (groupsIn (now (groups .entry)) count)) ⌝ }
 {
     let last = layout::group_in(groups, count - 1).length;
     if count == 1 {
@@ -127,13 +128,14 @@ fn lengths_of(groups: &[u8], count: usize) -> Lengths
     }
 }
 
-// "Number width = bits(greatest number). [..] Splitting method 1, missing management 0": the template of the groups in a list.
-pub fn template_of(greatest: u32, groups: &[u8], count: usize) -> Template
-    requires { ⌜ Coded (now groups) count ⌝ }
-    ensures { λ r. ⌜ r ≡ codedTemplate greatest (groupsIn (now (groups .entry)) count) ⌝ }
+// "Number width = bits(greatest number). [..] Splitting method 1, missing management 0": the template of the groups that the
+// records in a list speak of, whatever numbers these are of.
+pub fn template_of(top: u32, groups: &[u8], count: usize) -> Template
+    requires { ⌜ Recorded (now groups) count ⌝ }
+    ensures { λ r. ⌜ ((numbers : List ℕ) → Sound numbers (now (groups .entry)) count → top ≡ greatest numbers → r ≡ templateOf numbers (ownGroups numbers (groupsIn (now (groups .entry)) count))) ⌝ }
 {
     Template {
-        width: places::bits(greatest) as u8,
+        width: places::bits(top) as u8,
         splitting: 1,
         management: 0,
         groups: count as u32,

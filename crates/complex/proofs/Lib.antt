@@ -1,3 +1,2 @@
-pub mod Decoding
-pub mod Storing
-pub mod Filling
+pub mod Points
+pub mod Groups

@@ -1,4 +1,3 @@
-pub mod Deciding
-pub mod Packed
+pub mod Located
 pub mod Restoring
 pub mod Spatial

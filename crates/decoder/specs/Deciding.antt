@@ -1,20 +1,17 @@
--- Deciding, from where the parts are to whether there is room. Assumes nothing.
+-- What is left to decide once the parts are found. Assumes nothing.
 use Prim.Native.Nat.{ℕ}
-use Rattle.format.specs.Refusals.{first}
-use Rattle.format.specs.Unpacking.{countRefusals, roomRefusals}
+use mathlib.Core.List.{List, [], _∷_, _++_}
+use lib.Dec.{ltb}
+use Rattle.format.specs.Refusals.{Row, _gives_, first, countRefusals}
+use Rattle.format.specs.declared.Refusal.the-variants.{Room}
 use Rattle.format.specs.declared.Located.{Located}
 use Rattle.format.specs.declared.Located.the-variants as located
 
--- 9
-abbrev pub countedBy : ℕ → Located → Located
-countedBy declared (located.At places points) = first located.Refused (countRefusals points declared) (located.At places points)
-countedBy declared (located.Refused r) = located.Refused r
+module _ (declared room : ℕ) where
+  -- 9, then 10 for so many places lent
+  abbrev pub lastRefusals : ℕ → List Row
+  lastRefusals points = countRefusals points declared ++ (ltb room declared gives Room ∷ [])
 
--- 10, for so many lent octets
-abbrev pub roomyBy : ℕ → ℕ → Located → Located
-roomyBy octets declared (located.At places points) = first located.Refused (roomRefusals octets declared) (located.At places points)
-roomyBy octets declared (located.Refused r) = located.Refused r
-
--- 9, then 10
-abbrev pub decidedBy : ℕ → ℕ → Located → Located
-decidedBy octets declared x = roomyBy octets declared (countedBy declared x)
+  abbrev pub decidedIn : Located → Located
+  decidedIn (located.At places points) = first located.Refused (lastRefusals points) (located.At places points)
+  decidedIn (located.Refused r) = located.Refused r

@@ -4,13 +4,13 @@ ghost use mathlib.Core.Path.{_≡_};
 ghost use mathlib.Core.List.{List};
 ghost use Prim.Native.Nat.{_*_, _≤_};
 ghost use lib.ListN.{length};
-ghost use Rattle.format.specs.Refusals.{left};
+ghost use Rattle.format.specs.Refusals.{limit, left};
 ghost use Rattle.format.specs.Layout.{pointSize};
 ghost use Rattle.format.specs.Unpacking.{unpack52};
-ghost use Rattle.format.specs.Differences.{restoredFrom, left53, unpack53};
+ghost use Rattle.format.specs.Differences.{descriptorsOf, restoredFrom, left53, unpack53};
 ghost use Rattle.format.specs.declared.DecodedValue.{DecodedValue};
 ghost use Rattle.diff.specs.Restoring.{Orderly, Holding};
-ghost use Rattle.decoder.specs.Deciding.{countedBy, roomyBy, decidedBy};
+ghost use Rattle.decoder.specs.Deciding.{decidedIn};
 use format::DecodedValue;
 use format::Differencing;
 use format::Located;
@@ -18,40 +18,24 @@ use format::Refusal;
 use format::Template;
 use format::Unpacked;
 
-// 9: "points do not equal the declared count, or that count is above 4,194,304".
-fn counted(located: Located, declared: u32) -> Located
-    ensures { λ r. ⌜ r ≡ countedBy declared located ⌝ }
+// 9, "points do not equal the declared count, or that count is above 4,194,304", then 10, "a lent buffer is too small": what is
+// left to decide once the parts are found, for so many places lent. 5.2 and 5.3 share it.
+fn decided(located: Located, declared: u32, room: usize) -> Located
+    ensures { λ r. ⌜ r ≡ decidedIn declared room located ⌝ }
 {
-    let Located::At(places, points) = located else {
+    let Located::At(places, count) = located else {
         return located;
     };
-    if points != places::size(declared) {
+    if count != places::size(declared) {
         return Located::Refused(Refusal::Points);
     }
-    if 4194304 < declared {
+    if format::LIMIT < declared {
         return Located::Refused(Refusal::Points);
     }
-    Located::At(places, points)
-}
-
-// 10: "a lent buffer is too small".
-fn roomy(located: Located, declared: u32, octets: usize) -> Located
-    ensures { λ r. ⌜ r ≡ roomyBy octets declared located ⌝ }
-{
-    let Located::At(places, points) = located else {
-        return located;
-    };
-    if octets / layout::POINT_SIZE < places::size(declared) {
+    if room < count {
         return Located::Refused(Refusal::Room);
     }
-    Located::At(places, points)
-}
-
-// 9, then 10, which 5.2 and 5.3 share.
-fn decided(located: Located, declared: u32, octets: usize) -> Located
-    ensures { λ r. ⌜ r ≡ decidedBy octets declared located ⌝ }
-{
-    roomy(counted(located, declared), declared, octets)
+    Located::At(places, count)
 }
 
 // Template 5.2: the points of a payload, nine octets each.
@@ -64,25 +48,24 @@ pub fn unpack_complex(
     ensures { λ r. ⌜ left r (now (points .exit)) ≡ unpack52 template declared (now (payload .entry)) (now (points .entry)) ⌝ }
 {
     let located = group_fields::located_complex(template, payload);
-    match decided(located, declared, points.len()) {
+    match decided(located, declared, points.len() / format::POINT_SIZE) {
         Located::Refused(refusal) => Unpacked::Refused(refusal),
-        Located::At(places, count) => {
-            let fields = group_fields::fields_of(template, 0);
-            complex::store_points(template, payload, fields, points);
+        Located::At(places, _) => {
+            complex::store_points(template, payload, places, points);
             Unpacked::Points(declared)
         }
     }
 }
 
 // Restores the packed points. 12, "last": "12 leaves number 0 and mark 0 in the declared places".
-fn restored(
+fn unpack_differences(
     differencing: Differencing,
     declared: u32,
     payload: &[u8],
     points: &mut [u8],
 ) -> Unpacked
-    requires { ⌜ Orderly differencing × (declared ≤ 4194304) × (declared * pointSize ≤ length (now points)) ⌝ }
-    ensures { λ r. ⌜ ((packed : List DecodedValue) → Holding packed declared (now (points .entry)) → left r (now (points .exit)) ≡ left53 declared (restoredFrom differencing (now (payload .entry)) packed) (now (points .entry))) ⌝ }
+    requires { ⌜ Orderly differencing × (declared ≤ limit) × (declared * pointSize ≤ length (now points)) ⌝ }
+    ensures { λ r. ⌜ ((packed : List DecodedValue) → Holding packed declared (now (points .entry)) → left r (now (points .exit)) ≡ left53 declared (restoredFrom (differencing .order) (descriptorsOf differencing (now (payload .entry))) packed) (now (points .entry))) ⌝ }
 {
     let count = places::size(declared);
     if diff::restore(differencing, payload, points, count) {
@@ -103,13 +86,11 @@ pub fn unpack_spatial(
     ensures { λ r. ⌜ left r (now (points .exit)) ≡ unpack53 template differencing declared (now (payload .entry)) (now (points .entry)) ⌝ }
 {
     let located = group_fields::located_spatial(template, differencing, payload);
-    match decided(located, declared, points.len()) {
+    match decided(located, declared, points.len() / format::POINT_SIZE) {
         Located::Refused(refusal) => Unpacked::Refused(refusal),
-        Located::At(places, count) => {
-            let start = group_fields::descriptors_end(differencing);
-            let fields = group_fields::fields_of(template, start);
-            complex::store_points(template, payload, fields, points);
-            restored(differencing, declared, payload, points)
+        Located::At(places, _) => {
+            complex::store_points(template, payload, places, points);
+            unpack_differences(differencing, declared, payload, points)
         }
     }
 }

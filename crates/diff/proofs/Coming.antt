@@ -7,7 +7,7 @@ use lib.IntN.{ℤ, pos, _+ℤ_}
 use Rattle.format.specs.Differences.{raised, expected, restored}
 use Rattle.format.specs.declared.DecodedValue.{DecodedValue}
 use Rattle.format.specs.declared.DecodedValue.the-variants.{Normal}
-use Rattle.diff.specs.Restoring.{bias, kept, Bounded, Expected, Steady, toCome, from, following, Next}
+use Rattle.diff.specs.Restoring.{bias, kept, Bounded, Expected, Steady, toCome, from, following, Following}
 use Rattle.diff.specs.declared.Descriptors.{Descriptors}
 use Rattle.diff.specs.declared.Restoring.{Restoring}
 use Rattle.diff.proofs.Kept.{kept-sum}
@@ -48,14 +48,14 @@ module _ {order : ℕ} (x : Descriptors) {r : Restoring} (some : 0 < order) (few
   unfolding map raised restored
   value-comes left number packed e more = rw e
 
-  pub next-first : (packed : ℕ) {next : Restoring} → (r .left ≡ 0 → ⊥) → r .left ≡ order → next ≡ following (r .left - 1) (x .first) r → Next order x r packed next
+  pub next-first : (packed : ℕ) {next : Restoring} → (r .left ≡ 0 → ⊥) → r .left ≡ order → next ≡ following (r .left - 1) (x .first) r → Following order x r packed next
   next-first packed n e en = rw en record {
     few = omega (arith, s .few);
     before = refl;
     point = value-comes (r .left - 1) (x .first) packed (rw e (first-to-come order x some few));
   }
 
-  pub next-second : (packed : ℕ) {next : Restoring} → (r .left ≡ 0 → ⊥) → (r .left ≡ order → ⊥) → next ≡ following (r .left - 1) (x .second) r → Next order x r packed next
+  pub next-second : (packed : ℕ) {next : Restoring} → (r .left ≡ 0 → ⊥) → (r .left ≡ order → ⊥) → next ≡ following (r .left - 1) (x .second) r → Following order x r packed next
   next-second packed n o en = rw en record {
     few = omega (arith, s .few);
     before = refl;
@@ -73,7 +73,7 @@ module _ {order : ℕ} (x : Descriptors) {r : Restoring} (some : 0 < order) (few
       (ap (λ (z : ℤ). Normal z ∷ restored order [] z (kept (r .previous)) (map (raised (kept (x .minimum))) more)) sum)
 
   pub next-sum : {packed e n : ℕ} {next : Restoring} → r .left ≡ 0 → Bounded x → Expected order (r .previous) (r .before) e → (n ≡ packed) × (n < 2 ^ 32)
-      → next ≡ following 0 (n + x .minimum + e - bias) r → Next order x r packed next
+      → next ≡ following 0 (n + x .minimum + e - bias) r → Following order x r packed next
   next-sum {packed} {e} {n} el b h w en = rw (en, w .0) record {
     few = omega arith;
     before = refl;

@@ -1,14 +1,17 @@
 -- Numbers that are kept with the bias added to them. Assumes nothing.
 use mathlib.Core.Path.{_≡_, refl, sym, ap, _∙_}
 use mathlib.Core.Bool.{Bool, true, false}
+use mathlib.Core.List.{List}
 use Prim.Native.Nat.{ℕ, _+_, _-_, _^_, _≤_, _<_}
 use native.Mathlib.Omega.{arith}
 use lib.Dec.{ltb}
+use lib.Seq.{sets}
 use lib.IntN.{ℤ, pos, subℕ, negℤ, natAbs, _+ℤ_, _-ℤ_}
 use borrow.Author.Tests.{lt-ltb, le-ltb, ltb-true, ltb-false, ne-eqb}
 use mir.Facts.{toZ-ofZ}
 use mir.Val.{SFits, toZ, ofZ}
 use mir.Syntax.{w64}
+use Rattle.format.specs.Layout.{bigEndian, twosComplement}
 use Rattle.format.specs.Differences.{expected, beyond}
 use Rattle.format.specs.declared.DecodedValue.the-variants.{Normal}
 use Rattle.laws.specs.Signed.{by-sign, difference-same, pos-difference, minus-difference, difference-add, difference-sub, difference-size}
@@ -77,9 +80,13 @@ beyond-high n l = by-test (ltb (bias + 2 ^ 60) n) refl ∙ sym (beyond-size n)
     by-test false h = h ∙ sym (le-ltb (2 ^ 60) ((n - bias) + (bias - n)) (omega (arith, ltb-false (bias + 2 ^ 60) n h)))
 
 -- such a number has a pattern of 64 bits, which it is read from again
-pub near-read : (n : ℕ) {z : ℤ} → Near n → z ≡ kept n → toZ w64 (ofZ w64 z) ≡ kept n
+near-read : (n : ℕ) {z : ℤ} → Near n → z ≡ kept n → toZ w64 (ofZ w64 z) ≡ kept n
 unfolding kept
 near-read n h e = ap (λ (y : ℤ). toZ w64 (ofZ w64 y)) e ∙ toZ-ofZ (by-sign (SFits w64) n bias (λ l. record { sfits = omega arith }) (λ l. record { sfits = omega arith }))
+
+pub near-stored : (n : ℕ) {z : ℤ} (octets : List ℕ) {octets′ : List ℕ} (at : ℕ) → Near n → z ≡ kept n → octets′ ≡ sets octets at (bigEndian 8 (twosComplement (toZ w64 (ofZ w64 z))))
+    → octets′ ≡ sets octets at (bigEndian 8 (twosComplement (kept n)))
+near-stored n octets at h e s = s ∙ ap (λ (y : ℤ). sets octets at (bigEndian 8 (twosComplement y))) (near-read n h e)
 
 pub near : (n : ℕ) → beyond (Normal (kept n)) ≡ false → Near n
 near n h =

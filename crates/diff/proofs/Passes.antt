@@ -1,246 +1,157 @@
 -- All points, one after another. Assumes nothing.
-use mathlib.Core.Path.{_≡_, refl, sym, ap, ap₂, subst, _∙_}
-use mathlib.Core.Bool.{Bool, true, false, not, true≢false}
-use mathlib.Core.List.{List, [], _∷_, _++_, append-assoc, append-nil, map, flatMap}
+use mathlib.Core.Path.{_≡_, refl, sym, ap, subst, _∙_}
+use mathlib.Core.Bool.{Bool, true, false, not, false≢true}
+use mathlib.Core.List.{List, [], _∷_, _++_, append-assoc, map, flatMap}
 use Prim.Native.Nat.{ℕ, suc, _+_, _*_, _≤_, _<_}
 use native.Mathlib.Omega.{arith}
+use lib.IntN.{pos}
 use lib.ListN.{length, drop, length-append}
 use lib.Seq.{drop-at}
-use Rattle.format.specs.Lists.{anyOf, _over_}
-use Rattle.format.specs.Layout.{pointOctets}
-use Rattle.format.specs.Differences.{restored, restoredFrom, beyond}
+use Rattle.format.specs.Lists.{anyOf}
+use Rattle.format.specs.Layout.{pointSize, pointOctets}
+use Rattle.format.specs.Differences.{descriptorsOf, restored, restoredFrom, beyond}
 use Rattle.format.specs.declared.Differencing.{Differencing}
 use Rattle.format.specs.declared.DecodedValue.{DecodedValue}
-use Rattle.laws.specs.Lists.{any-append}
-use Rattle.laws.specs.Points.{size-points}
-use Rattle.laws.specs.Stores.{flat-append}
-use Rattle.diff.specs.Restoring.{Holding, Steady, from, Comes, Lying, Went, Stopped, settled, firstRestoring, Walking, Passing, asFar, Outcome, Orderly, Described, Restored}
+use Rattle.laws.specs.Points.{size-point, size-points, length-restored}
+use Rattle.diff.specs.Restoring.{Holding, Steady, from, Lying, Went, Stopped, Remaining, AllRestored, Onward, settled, firstRestoring, Orderly, Described, Restored}
 use Rattle.diff.specs.declared.Descriptors.{Descriptors}
 use Rattle.diff.specs.declared.Restoring.{Restoring}
 use Rattle.diff.proofs.Kept.{kept-zero}
 
--- points of which none is beyond are gone through
-far-append : (done points was packed : List DecodedValue) → anyOf beyond done ≡ false → length was ≡ length done → asFar (done ++ points) (was ++ packed) ≡ done ++ asFar points packed
-unfolding anyOf asFar
-far-append [] points [] packed h e = refl
-far-append [] points (w ∷ was) packed h e = absurd (omega arith)
-far-append (d ∷ done) points [] packed h e = absurd (omega arith)
-far-append (d ∷ done) points (w ∷ was) packed h e = by-test (beyond d) refl (λ n. far-append done points was packed n (omega arith))
-  where
-    by-test : (t : Bool) → beyond d ≡ t → (anyOf beyond done ≡ false → asFar (done ++ points) (was ++ packed) ≡ done ++ asFar points packed)
-        → asFar (d ∷ (done ++ points)) (w ∷ (was ++ packed)) ≡ d ∷ (done ++ asFar points packed)
-    by-test true t again = absurd (true≢false (rw t at h))
-    by-test false t again = rw t (ap (λ (l : List DecodedValue). d ∷ l) (again (rw t at h)))
+-- ---- from one point on
 
--- and where none is, all of them stand there
-pub far-all : (points packed : List DecodedValue) → anyOf beyond points ≡ false → length packed ≡ length points → asFar points packed ≡ points
-unfolding asFar
-far-all points packed h e = ap₂ asFar (sym (append-nil points)) (sym (append-nil packed)) ∙ far-append points [] packed [] h e ∙ append-nil points
-
-pub passing-start : (order : ℕ) (x : Descriptors) (count : ℕ) (lent : List ℕ) → Passing order x count lent (firstRestoring order) 0 lent
-unfolding flatMap anyOf
-passing-start order x count lent = record {
-  some = omega arith;
-  long = refl;
-  steady = record {
-    few = omega arith;
-    previous = record { low = omega arith; high = omega arith };
-    before = record { low = omega arith; high = omega arith };
-  };
-  exact = λ packed h. record {
-    was = [];
-    done = [];
-    left = packed;
-    was-is = refl;
-    was-long = refl;
-    done-is = refl;
-    left-is = omega (arith, h .long);
-    small = λ j l. h .small j (omega (arith, h .long));
-    all = refl;
-    within = refl;
-    there = h .there ∙ ap (λ (n : ℕ). flatMap pointOctets packed ++ drop n lent) (size-points packed ∙ ap (λ (n : ℕ). n * 9) (h .long));
-  };
-}
-
-module _ {order : ℕ} {x : Descriptors} {packed : List DecodedValue} {count : ℕ} {lent : List ℕ} {r : Restoring} {k : ℕ} {octets : List ℕ}
-    (w : Walking order x packed count lent r k octets) where
-  abbrev front : List ℕ
-  front = flatMap pointOctets (w .done)
-
-  abbrev behind : List DecodedValue → List ℕ
-  behind more = flatMap pointOctets more ++ drop (count * 9) lent
-
+module _ {count k : ℕ} {octets : List ℕ} where
   -- the packed point that stands at k
-  module _ {point : DecodedValue} {more : List DecodedValue} (e : w .left ≡ point ∷ more) where
-    lies : Lying k octets point front (behind more)
-    unfolding flatMap
-    lies = record {
-      small = rw e at (w .small) 0 (omega arith);
-      long = size-points (w .done) ∙ ap (λ (n : ℕ). n * 9) (w .done-is);
-      there = rw e at (w .there) ∙ ap (λ (l : List ℕ). front ++ l) (append-assoc (pointOctets point) (flatMap pointOctets more) (drop (count * 9) lent));
-    }
-
-    -- and the one that comes of it
-    comes : (new : DecodedValue) (next : Restoring) → Comes order x r point new next
-        → from order x (firstRestoring order) packed ≡ w .done ++ (new ∷ from order x next more)
-    comes new next c = w .all ∙ ap (λ (l : List DecodedValue). w .done ++ l) (ap (from order x r) e ∙ c more)
-
-  walking-more : {octets′ : List ℕ} {next : Restoring} → Went order x r k octets octets′ next → k < count → Walking order x packed count lent next (k + 1) octets′
-  unfolding anyOf flatMap
-  walking-more {octets′} {next} m l = by-left (w .left) refl
-    where
-      by-left : (left : List DecodedValue) → w .left ≡ left → Walking order x packed count lent next (k + 1) octets′
-      by-left [] e = absurd (omega (arith, w .left-is, ap length e))
-      by-left (point ∷ more) e =
-          let t = m .exact point front (behind more) (lies e) in
-          let last : List DecodedValue = t .point ∷ [] in
-          record {
-            was = w .was ++ (point ∷ []);
-            done = w .done ++ last;
-            left = more;
-            was-is = w .was-is ∙ ap (λ (l : List DecodedValue). w .was ++ l) e ∙ sym (append-assoc (w .was) (point ∷ []) more);
-            was-long = length-append (w .was) (point ∷ []) ∙ omega (arith, w .was-long, length-append (w .done) last);
-            done-is = length-append (w .done) last ∙ omega (arith, w .done-is);
-            left-is = omega (arith, w .left-is, ap length e);
-            small = λ j i. rw e at (w .small) (suc j) (omega arith);
-            all = comes e (t .point) next (t .comes) ∙ sym (append-assoc (w .done) last (from order x next more));
-            within = any-append beyond (w .done) last (w .within) ∙ rw (t .within);
-            there =
-                t .there ∙ sym (append-assoc front (pointOctets (t .point)) (behind more))
-                ∙ ap (λ (o : List ℕ). o ++ behind more)
-                (ap (λ (o : List ℕ). front ++ o) (sym (append-nil (pointOctets (t .point)))) ∙ sym (flat-append pointOctets (w .done) last));
-          }
-
-  -- places past the points are unchanged
-  past : drop (count * 9) octets ≡ drop (count * 9) lent
-  past =
-      let left = flatMap pointOctets (w .left) in
-      let size : length (front ++ left) ≡ count * 9 = length-append front left ∙ omega (arith, size-points (w .done), size-points (w .left), w .done-is, w .left-is) in
-      rw (w .there, ← append-assoc front left (drop (count * 9) lent)) (drop-at (front ++ left) (drop (count * 9) lent) (count * 9) size)
-
-  -- restoring ends where what is left stays
-  ended : asFar (from order x r (w .left)) (w .left) ≡ w .left → octets ≡ flatMap pointOctets (asFar (from order x (firstRestoring order) packed) packed) over lent
-  ended f =
-      let left = flatMap pointOctets (w .left) in
-      let all = w .done ++ w .left in
-      let size : length (flatMap pointOctets all) ≡ count * 9 = size-points all ∙ omega (arith, length-append (w .done) (w .left), w .done-is, w .left-is) in
-      let far : asFar (from order x (firstRestoring order) packed) packed ≡ all =
-      ap₂ asFar (w .all) (w .was-is) ∙ far-append (w .done) (from order x r (w .left)) (w .was) (w .left) (w .within) (w .was-long) ∙ ap (λ (l : List DecodedValue). w .done ++ l) f in
-      let stands : octets ≡ flatMap pointOctets all ++ drop (count * 9) lent =
-      w .there ∙ sym (append-assoc front left (drop (count * 9) lent)) ∙ ap (λ (l : List ℕ). l ++ drop (count * 9) lent) (sym (flat-append pointOctets (w .done) (w .left))) in
-      rw far (stands ∙ ap (λ (n : ℕ). flatMap pointOctets all ++ drop n lent) (sym size))
-
-  -- one is beyond
-  walking-beyond : {octets′ : List ℕ} → Stopped order x r k octets octets′ → k < count
-      → (anyOf beyond (from order x (firstRestoring order) packed) ≡ true) × (asFar (from order x r (w .left)) (w .left) ≡ w .left)
-  unfolding anyOf asFar
-  walking-beyond m l = by-left (w .left) refl
-    where
-      by-left : (left : List DecodedValue) → w .left ≡ left → (anyOf beyond (from order x (firstRestoring order) packed) ≡ true) × (asFar (from order x r (w .left)) (w .left) ≡ w .left)
-      by-left [] e = absurd (omega (arith, w .left-is, ap length e))
-      by-left (point ∷ more) e =
-          let t = m .exact point front (behind more) (lies e) in
-          let here : asFar (t .point ∷ from order x (t .next) more) (point ∷ more) ≡ point ∷ more = rw (t .past) in (
-            ap (anyOf beyond) (comes e (t .point) (t .next) (t .comes)) ∙ any-append beyond (w .done) (t .point ∷ from order x (t .next) more) (w .within) ∙ rw (t .past),
-            rw e (ap (λ (points : List DecodedValue). asFar points (point ∷ more)) (t .comes more) ∙ here),
-          )
-
-  -- none is
-  walking-end : count ≤ k → (from order x (firstRestoring order) packed ≡ w .done) × (asFar (from order x r (w .left)) (w .left) ≡ w .left)
-  unfolding restored map asFar
-  walking-end l = by-left (w .left) refl
-    where
-      by-left : (left : List DecodedValue) → w .left ≡ left → (from order x (firstRestoring order) packed ≡ w .done) × (asFar (from order x r (w .left)) (w .left) ≡ w .left)
-      by-left (point ∷ more) e = absurd (omega (arith, w .left-is, ap length e))
-      by-left [] e = (w .all ∙ ap (λ (l : List DecodedValue). w .done ++ from order x r l) e ∙ append-nil (w .done), rw e)
-
--- ---- for whatever packed points the lent octets hold
-
-module _ {order : ℕ} {x : Descriptors} {count : ℕ} {lent : List ℕ} {r : Restoring} {k : ℕ} {octets : List ℕ} (p : Passing order x count lent r k octets) where
-  pub passing-more : {octets′ : List ℕ} {next : Restoring} → Went order x r k octets octets′ next → k < count → Passing order x count lent next (k + 1) octets′
-  passing-more m l = record {
-    some = omega arith;
-    long = m .long ∙ p .long;
-    steady = m .steady;
-    exact = λ packed h. walking-more (p .exact packed h) m l;
+  lies : {point : DecodedValue} {more : List DecodedValue} {front behind : List ℕ} → Remaining count k octets (point ∷ more) front behind
+      → Lying k octets point front (flatMap pointOctets more ++ behind)
+  unfolding flatMap
+  lies {point} {more} {front} {behind} h = record {
+    small = h .small 0 (omega arith);
+    long = h .long;
+    there = h .there ∙ ap (λ (l : List ℕ). front ++ l) (append-assoc (pointOctets point) (flatMap pointOctets more) behind);
   }
 
-  pub passing-beyond : {octets′ : List ℕ} → Stopped order x r k octets octets′ → k < count
-      → (packed : List DecodedValue) → Holding packed count lent → Outcome (from order x (firstRestoring order) packed) packed false lent octets′
-  passing-beyond m l packed h =
-      let w = p .exact packed h in
-      let e = walking-beyond w m l in
-      record {
-        answer = sym (ap not (e .0));
-        there = m .same ∙ ended w (e .1);
-        long = ap length (m .same) ∙ p .long;
-        past = rw (h .long) (ap (drop (count * 9)) (m .same) ∙ past w);
-      }
+  -- what stands past the points
+  past : {packed : List DecodedValue} {front behind : List ℕ} → Remaining count k octets packed front behind → drop (count * pointSize) octets ≡ behind
+  past {packed} {front} {behind} h =
+      let points = flatMap pointOctets packed in
+      rw (h .there, ← append-assoc front points behind)
+      (drop-at (front ++ points) behind (count * pointSize) (length-append front points ∙ omega (arith, size-points packed, h .long, h .few)))
 
-  pub passing-end : count ≤ k → (packed : List DecodedValue) → Holding packed count lent → Outcome (from order x (firstRestoring order) packed) packed true lent octets
-  passing-end l packed h =
-      let w = p .exact packed h in
-      let e = walking-end w l in
-      record {
-        answer = sym (ap not (ap (anyOf beyond) (e .0) ∙ w .within));
-        there = ended w (e .1);
-        long = p .long;
-        past = rw (h .long) (past w);
-      }
+  module _ {order : ℕ} {x : Descriptors} {r : Restoring} where
+    -- a point is in its place, and what comes to the others comes to all
+    onward-more : {octets′ after : List ℕ} {next : Restoring} {within : Bool} → Went order x r k octets octets′ next → k < count
+        → Onward order x count next (k + 1) octets′ within after → Onward order x count r k octets within after
+    unfolding flatMap anyOf
+    onward-more {octets′} {after} {next} {within} m l o = record { long = o .long ∙ m .long; exact = all }
+      where
+        all : (packed : List DecodedValue) (front behind : List ℕ) → Remaining count k octets packed front behind → AllRestored order x count r within after packed front behind
+        all [] front behind h = absurd (omega (arith, h .few))
+        all (point ∷ more) front behind h =
+            let t = m .exact point front (flatMap pointOctets more ++ behind) (lies h) in
+            let here = pointOctets (t .point) in
+            let rest = flatMap pointOctets (from order x next more) in
+            let f = o .exact more (front ++ here) behind record {
+              small = λ j i. h .small (suc j) (omega arith);
+              few = omega (arith, h .few);
+              long = length-append front here ∙ omega (arith, h .long, size-point (t .point));
+              there = t .there ∙ sym (append-assoc front here (flatMap pointOctets more ++ behind));
+            } in
+            record {
+              answer = rw (t .comes more, t .within) (f .answer);
+              there = λ e. rw (t .comes more) (f .there e ∙ append-assoc front here (rest ++ behind) ∙ ap (λ (l : List ℕ). front ++ l) (sym (append-assoc here rest behind)));
+              past = f .past;
+            }
 
--- ---- once no first value is still to come
+    -- a point is beyond
+    pub onward-beyond : {octets′ : List ℕ} → Stopped order x r k octets octets′ → k < count → Onward order x count r k octets false octets′
+    unfolding anyOf
+    onward-beyond {octets′} m l = record { long = ap length (m .same); exact = all }
+      where
+        all : (packed : List DecodedValue) (front behind : List ℕ) → Remaining count k octets packed front behind → AllRestored order x count r false octets′ packed front behind
+        all [] front behind h = absurd (omega (arith, h .few))
+        all (point ∷ more) front behind h =
+            let t = m .exact point front (flatMap pointOctets more ++ behind) (lies h) in
+            record {
+              answer = rw (t .comes more, t .past);
+              there = λ e. absurd (false≢true e);
+              past = rw (m .same) (past h);
+            }
 
-pub passing-settled : {order : ℕ} {x : Descriptors} {count : ℕ} {lent : List ℕ} {r : Restoring} {k : ℕ} {octets : List ℕ} → r .left ≡ 0
-    → Passing order x count lent r k octets → Passing order x count lent (settled (r .previous) (r .before)) k octets
-passing-settled {order} {x} {count} {lent} {r} {k} {octets} e p =
-    subst (λ (q : Restoring). Passing order x count lent q k octets) (ap (λ (n : ℕ). record { left = n; previous = r .previous; before = r .before }) e) p
+    -- no point is left
+    pub onward-end : count ≤ k → Onward order x count r k octets true octets
+    unfolding anyOf flatMap map restored
+    onward-end l = record { long = refl; exact = all }
+      where
+        all : (packed : List DecodedValue) (front behind : List ℕ) → Remaining count k octets packed front behind → AllRestored order x count r true octets packed front behind
+        all [] front behind h = record { answer = refl; there = λ e. h .there; past = past h }
+        all (point ∷ more) front behind h = absurd (omega (arith, h .few))
+
+-- ---- the loops: what comes to the points from k on comes to all from k₀ on
+
+pub record Underway (order : ℕ) (x : Descriptors) (count : ℕ) (r₀ : Restoring) (k₀ : ℕ) (octets₀ : List ℕ) (r : Restoring) (k : ℕ) (octets : List ℕ) : Type 0 where
+  pub some : k ≤ count
+  pub long : length octets ≡ length octets₀
+  pub steady : Steady order r
+  pub onward : {within : Bool} {after : List ℕ} → Onward order x count r k octets within after → Onward order x count r₀ k₀ octets₀ within after
+
+pub underway-start : {order : ℕ} (x : Descriptors) {count : ℕ} {r : Restoring} {k : ℕ} (octets : List ℕ) → Steady order r → k ≤ count → Underway order x count r k octets r k octets
+underway-start x octets s l = record { some = l; long = refl; steady = s; onward = λ o. o }
+
+pub steady-first : (order : ℕ) → Steady order (firstRestoring order)
+steady-first order = record {
+  few = omega arith;
+  previous = record { low = omega arith; high = omega arith };
+  before = record { low = omega arith; high = omega arith };
+}
 
 pub steady-settled : {order : ℕ} {r : Restoring} → Steady order r → Steady order (settled (r .previous) (r .before))
 steady-settled s = record { few = omega arith; previous = s .previous; before = s .before }
 
--- the points from one on, as far as point k
-pub record Going (order : ℕ) (x : Descriptors) (count : ℕ) (r₀ : Restoring) (k₀ : ℕ) (octets₀ : List ℕ) (r : Restoring) (k : ℕ) (octets : List ℕ) : Type 0 where
-  pub some : k ≤ count
-  pub long : length octets ≡ length octets₀
-  pub steady : Steady order r
-  pub onward : (lent : List ℕ) → Passing order x count lent r₀ k₀ octets₀ → Passing order x count lent r k octets
-
-pub going-start : {order : ℕ} (x : Descriptors) {count : ℕ} {r : Restoring} {k : ℕ} (octets : List ℕ) → Steady order r → k ≤ count → Going order x count r k octets r k octets
-going-start x octets s l = record { some = l; long = refl; steady = s; onward = λ lent p. p }
-
-module _ {order : ℕ} {x : Descriptors} {count : ℕ} {r₀ : Restoring} {k₀ : ℕ} {octets₀ : List ℕ} {r : Restoring} {k : ℕ} {octets : List ℕ} (g : Going order x count r₀ k₀ octets₀ r k octets) where
-  pub going-more : {octets′ : List ℕ} {next : Restoring} → Went order x r k octets octets′ next → k < count → Going order x count r₀ k₀ octets₀ next (k + 1) octets′
-  going-more m l = record {
+module _ {order : ℕ} {x : Descriptors} {count : ℕ} {r₀ : Restoring} {k₀ : ℕ} {octets₀ : List ℕ} {r : Restoring} {k : ℕ} {octets : List ℕ} (u : Underway order x count r₀ k₀ octets₀ r k octets) where
+  pub underway-more : {octets′ : List ℕ} {next : Restoring} → Went order x r k octets octets′ next → k < count → Underway order x count r₀ k₀ octets₀ next (k + 1) octets′
+  underway-more m l = record {
     some = omega arith;
-    long = m .long ∙ g .long;
+    long = m .long ∙ u .long;
     steady = m .steady;
-    onward = λ lent p. passing-more (g .onward lent p) m l;
+    onward = λ o. u .onward (onward-more m l o);
   }
 
-  pub going-beyond : {octets′ : List ℕ} → Stopped order x r k octets octets′ → k < count → (lent : List ℕ) → Passing order x count lent r₀ k₀ octets₀
-      → (packed : List DecodedValue) → Holding packed count lent → Outcome (from order x (firstRestoring order) packed) packed false lent octets′
-  going-beyond m l lent p = passing-beyond (g .onward lent p) m l
+  pub underway-beyond : {octets′ : List ℕ} → Stopped order x r k octets octets′ → k < count → Onward order x count r₀ k₀ octets₀ false octets′
+  underway-beyond m l = u .onward (onward-beyond m l)
 
-  pub going-end : count ≤ k → (lent : List ℕ) → Passing order x count lent r₀ k₀ octets₀
-      → (packed : List DecodedValue) → Holding packed count lent → Outcome (from order x (firstRestoring order) packed) packed true lent octets
-  going-end l lent p = passing-end (g .onward lent p) l
+  pub underway-end : count ≤ k → Onward order x count r₀ k₀ octets₀ true octets
+  underway-end l = u .onward (onward-end l)
+
+  -- once no first value is still to come
+  pub underway-settled : {within : Bool} {after : List ℕ} → r .left ≡ 0 → Onward order x count (settled (r .previous) (r .before)) k octets within after
+      → Onward order x count r₀ k₀ octets₀ within after
+  underway-settled {within} {after} e o =
+      u .onward (subst (λ (n : ℕ). Onward order x count (record { left = n; previous = r .previous; before = r .before }) k octets within after) (sym e) o)
 
 -- ---- what the payload says
 
 module _ (d : Differencing) (payload : List ℕ) {x : Descriptors} (s : Described d payload x) {count : ℕ} {within : Bool} {before after : List ℕ} where
-  whole : (order : ℕ) → order ≡ d .order
-      → ((packed : List DecodedValue) → Holding packed count before → Outcome (from order x (firstRestoring order) packed) packed within before after)
+  whole : (order : ℕ) → order ≡ d .order → Onward order x count (firstRestoring order) 0 before within after
       → (packed : List DecodedValue) → Holding packed count before → Restored d payload packed within before after
   whole order e o packed h =
-      let same : from order x (firstRestoring order) packed ≡ restoredFrom d payload packed = rw (e, ← s .firsts, ← s .minimum, kept-zero) in
-      subst (λ (q : List DecodedValue). Outcome q packed within before after) same (o packed h)
+      let points = restoredFrom (d .order) (descriptorsOf d payload) packed in
+      let same : from order x (firstRestoring order) packed ≡ points = rw (e, ← s .firsts, ← s .minimum, kept-zero) in
+      let size = size-points packed in
+      let long : length (flatMap pointOctets points) ≡ length (flatMap pointOctets packed) =
+      size-points points ∙ ap (λ (n : ℕ). n * pointSize) (length-restored (d .order) (descriptorsOf d payload .firsts) (pos 0) (pos 0) (descriptorsOf d payload .minimum) packed) ∙ sym size in
+      let f = o .exact packed [] (drop (length (flatMap pointOctets packed)) before) record { small = h .small; few = omega (arith, h .long); long = refl; there = h .there } in
+      record {
+        answer = f .answer ∙ ap (λ (l : List DecodedValue). not (anyOf beyond l)) same;
+        there = λ t. rw long (f .there t ∙ ap (λ (l : List DecodedValue). flatMap pointOctets l ++ drop (length (flatMap pointOctets packed)) before) same);
+        long = o .long;
+        past = rw (← size) (ap (λ (n : ℕ). drop n after) (size ∙ ap (λ (n : ℕ). n * pointSize) (h .long)) ∙ f .past);
+      }
 
-  pub whole-first : d .order ≡ 1
-      → ((packed : List DecodedValue) → Holding packed count before → Outcome (from 1 x (firstRestoring 1) packed) packed within before after)
+  pub whole-first : d .order ≡ 1 → Onward 1 x count (firstRestoring 1) 0 before within after
       → (packed : List DecodedValue) → Holding packed count before → Restored d payload packed within before after
   whole-first e o = whole 1 (sym e) o
 
-  pub whole-second : Orderly d → (d .order ≡ 1 → ⊥)
-      → ((packed : List DecodedValue) → Holding packed count before → Outcome (from 2 x (firstRestoring 2) packed) packed within before after)
+  pub whole-second : Orderly d → (d .order ≡ 1 → ⊥) → Onward 2 x count (firstRestoring 2) 0 before within after
       → (packed : List DecodedValue) → Holding packed count before → Restored d payload packed within before after
   whole-second w n o = whole 2 (omega arith) o

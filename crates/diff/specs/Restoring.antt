@@ -1,17 +1,18 @@
 -- Template 5.3, point by point: what a turn owes to document 01's restored points. Assumes nothing.
 use mathlib.Core.Path.{_≡_}
-use mathlib.Core.Bool.{Bool, true, false, not, cond}
+use mathlib.Core.Bool.{Bool, true, false, not}
 use mathlib.Core.List.{List, [], _∷_, _++_, map, flatMap}
 use Prim.Native.Nat.{ℕ, suc, _+_, _-_, _*_, _^_, _≤_, _<_}
-use lib.ListN.{length, getD, take, drop}
-use lib.IntN.{ℤ, pos, negsuc, subℕ}
+use lib.ListN.{length, take, drop}
+use lib.IntN.{ℤ, pos, subℕ}
 use Rattle.format.specs.Lists.{anyOf, _over_}
 use Rattle.format.specs.Bits.{bitAt, numberAt}
 use Rattle.format.specs.Layout.{pointSize, pointOctets}
 use Rattle.format.specs.Differences.{descriptorsOf, signed, raised, expected, restored, restoredFrom, beyond}
 use Rattle.format.specs.declared.Differencing.{Differencing}
 use Rattle.format.specs.declared.DecodedValue.{DecodedValue}
-use Rattle.format.specs.declared.DecodedValue.the-variants.{Normal, Missing1, Missing2}
+use Rattle.format.specs.declared.DecodedValue.the-variants.{Normal}
+use Rattle.laws.specs.Small.{Small, AllSmall}
 use Rattle.diff.specs.declared.Descriptors.{Descriptors}
 use Rattle.diff.specs.declared.Restoring.{Restoring}
 use Rattle.diff.specs.declared.Turn.{Turn}
@@ -26,18 +27,23 @@ pub record Orderly (d : Differencing) : Type 0 where
   pub wide : 0 < d .octets
   pub narrow : d .octets ≤ 4
 
--- a packed point as unpacking leaves it: a number of up to 32 bits, or missing
-abbrev pub Small : DecodedValue → Type 0
-Small (Normal (pos n)) = n < 2 ^ 32
-Small (Normal (negsuc n)) = ⊥
-Small Missing1 = Unit
-Small Missing2 = Unit
-
 -- the lent octets hold these packed points at their front
 pub record Holding (packed : List DecodedValue) (count : ℕ) (octets : List ℕ) : Type 0 where
   pub long : length packed ≡ count
-  pub small : (k : ℕ) → k < count → Small (getD packed k Missing1)
+  pub small : AllSmall packed
   pub there : octets ≡ flatMap pointOctets packed over octets
+
+-- of the points that come of packed ones: whether all are within 2^60 either way; where they are, every octet that is left;
+-- where one is not, "12 leaves number 0 and mark 0 in the declared places", which is the caller's to do
+pub record Outcome (points packed : List DecodedValue) (within : Bool) (before after : List ℕ) : Type 0 where
+  pub answer : within ≡ not (anyOf beyond points)
+  pub there : within ≡ true → after ≡ flatMap pointOctets points over before
+  pub long : length after ≡ length before
+  pub past : drop (length packed * pointSize) after ≡ drop (length packed * pointSize) before
+
+-- all points of document 01
+abbrev pub Restored : Differencing → List ℕ → List DecodedValue → Bool → List ℕ → List ℕ → Type 0
+Restored d payload packed = Outcome (restoredFrom (d .order) (descriptorsOf d payload) packed) packed
 
 -- ---- numbers that are kept
 
@@ -115,7 +121,7 @@ module _ (order : ℕ) (x : Descriptors) where
   Comes r packed point next = (more : List DecodedValue) → from r (packed ∷ more) ≡ point ∷ from next more
 
   -- the next number, which may be beyond
-  pub record Next (r : Restoring) (packed : ℕ) (next : Restoring) : Type 0 where
+  pub record Following (r : Restoring) (packed : ℕ) (next : Restoring) : Type 0 where
     pub few : next .left ≤ order
     pub before : next .before ≡ r .previous
     pub point : Comes r (Normal (pos packed)) (Normal (kept (next .previous))) next
@@ -150,6 +156,25 @@ module _ (order : ℕ) (x : Descriptors) where
 
 -- ---- all points
 
+-- packed points, in the lent octets from point k on, between others
+pub record Remaining (count k : ℕ) (octets : List ℕ) (packed : List DecodedValue) (front behind : List ℕ) : Type 0 where
+  pub small : AllSmall packed
+  pub few : k + length packed ≡ count
+  pub long : length front ≡ k * pointSize
+  pub there : octets ≡ front ++ (flatMap pointOctets packed ++ behind)
+
+module _ (order : ℕ) (x : Descriptors) where
+  -- what restoring comes to from there: whether all points are within 2^60 either way, the points where they are, and what
+  -- stood past them
+  pub record AllRestored (count : ℕ) (r : Restoring) (within : Bool) (after : List ℕ) (packed : List DecodedValue) (front behind : List ℕ) : Type 0 where
+    pub answer : within ≡ not (anyOf beyond (from order x r packed))
+    pub there : within ≡ true → after ≡ front ++ (flatMap pointOctets (from order x r packed) ++ behind)
+    pub past : drop (count * pointSize) after ≡ behind
+
+  pub record Onward (count : ℕ) (r : Restoring) (k : ℕ) (before : List ℕ) (within : Bool) (after : List ℕ) : Type 0 where
+    pub long : length after ≡ length before
+    pub exact : (packed : List DecodedValue) (front behind : List ℕ) → Remaining count k before packed front behind → AllRestored count r within after packed front behind
+
 -- the first point is still to come
 abbrev pub firstRestoring : ℕ → Restoring
 firstRestoring order = record { left = order; previous = bias; before = bias }
@@ -157,42 +182,3 @@ firstRestoring order = record { left = order; previous = bias; before = bias }
 -- no first value is still to come
 abbrev pub settled : ℕ → ℕ → Restoring
 settled previous before = record { left = 0; previous = previous; before = before }
-
--- for some packed points: those before point k are restored, and none of them is beyond
-pub record Walking (order : ℕ) (x : Descriptors) (packed : List DecodedValue) (count : ℕ) (lent : List ℕ) (r : Restoring) (k : ℕ) (octets : List ℕ) : Type 0 where
-  pub was : List DecodedValue
-  pub done : List DecodedValue
-  pub left : List DecodedValue
-  pub was-is : packed ≡ was ++ left
-  pub was-long : length was ≡ length done
-  pub done-is : length done ≡ k
-  pub left-is : k + length left ≡ count
-  pub small : (j : ℕ) → j < length left → Small (getD left j Missing1)
-  pub all : from order x (firstRestoring order) packed ≡ done ++ from order x r left
-  pub within : anyOf beyond done ≡ false
-  pub there : octets ≡ flatMap pointOctets done ++ (flatMap pointOctets left ++ drop (count * 9) lent)
-
--- and for whatever packed points the lent octets hold
-pub record Passing (order : ℕ) (x : Descriptors) (count : ℕ) (lent : List ℕ) (r : Restoring) (k : ℕ) (octets : List ℕ) : Type 0 where
-  pub some : k ≤ count
-  pub long : length octets ≡ length lent
-  pub steady : Steady order r
-  pub exact : (packed : List DecodedValue) → Holding packed count lent → Walking order x packed count lent r k octets
-
--- what stands there once restoring ends: the points as far as none is beyond, and from there on the packed ones
-unfoldable pub asFar : List DecodedValue → List DecodedValue → List DecodedValue
-asFar [] packed = packed
-asFar (point ∷ points) [] = []
-asFar (point ∷ points) (was ∷ packed) = cond (beyond point) (was ∷ packed) (point ∷ asFar points packed)
-
--- of the points that come of packed ones: whether all are within 2^60 either way, and every octet that is left. The last two
--- follow from the second, and are what a caller needs of it.
-pub record Outcome (points packed : List DecodedValue) (within : Bool) (before after : List ℕ) : Type 0 where
-  pub answer : within ≡ not (anyOf beyond points)
-  pub there : after ≡ flatMap pointOctets (asFar points packed) over before
-  pub long : length after ≡ length before
-  pub past : drop (length packed * pointSize) after ≡ drop (length packed * pointSize) before
-
--- all points of document 01
-abbrev pub Restored : Differencing → List ℕ → List DecodedValue → Bool → List ℕ → List ℕ → Type 0
-Restored d payload packed = Outcome (restoredFrom d payload packed) packed

@@ -2,14 +2,16 @@
 // left the packed ones. A number that may be below zero is kept with 2^62 − 1 added to it.
 ghost use mathlib.Core.Path.{_≡_};
 ghost use mathlib.Core.List.{List};
-ghost use Prim.Native.Nat.{ℕ, _+_, _*_, _<_, _≤_, _^_};
+ghost use Prim.Native.Nat.{_+_, _*_, _<_, _≤_, _^_};
 ghost use lib.ListN.{length};
+ghost use lib.Seq.{sets};
+ghost use Rattle.format.specs.Refusals.{limit};
 ghost use Rattle.format.specs.Bits.{numberAt};
-ghost use Rattle.format.specs.Layout.{pointSize};
+ghost use Rattle.format.specs.Layout.{bigEndian, pointSize, twosComplement};
 ghost use Rattle.format.specs.Differences.{beyond};
 ghost use Rattle.format.specs.declared.DecodedValue.{DecodedValue};
 ghost use Rattle.format.specs.declared.DecodedValue.the-variants.{Normal};
-ghost use Rattle.diff.specs.Restoring.{Orderly, Holding, Restored, bias, kept, Near, Bounded, Minimum, Described, Expected, Steady, Next, Told, Outcome, following, from, settled, firstRestoring, Passing};
+ghost use Rattle.diff.specs.Restoring.{Orderly, Holding, Restored, bias, kept, Near, Bounded, Minimum, Described, Expected, Steady, Following, Told, Onward, following, settled, firstRestoring};
 use format::BitPlace;
 use format::Differencing;
 
@@ -47,7 +49,7 @@ fn signed(number: u64) -> i64
     requires { ⌜ number < 2 ^ 63 ⌝ }
     ensures { λ r. ⌜ r ≡ kept number ⌝ }
 {
-    (number as i64) - 4611686018427387903
+    (number as i64) - (BIAS as i64)
 }
 
 // A first value, "unsigned".
@@ -109,7 +111,7 @@ fn after(left: usize, number: u64, restoring: Restoring) -> Restoring
 // The next number: one of the first values, or the packed number, the minimum and what is expected.
 fn next(order: usize, descriptors: Descriptors, restoring: Restoring, packed: u32) -> Restoring
     requires { ⌜ (0 < order) × (order ≤ 2) × Bounded descriptors × Steady order restoring ⌝ }
-    ensures { λ r. ⌜ Next order descriptors restoring packed r ⌝ }
+    ensures { λ r. ⌜ Following order descriptors restoring packed r ⌝ }
 {
     if restoring.left == 0 {
         let expected = expected(order, restoring.previous, restoring.before);
@@ -132,8 +134,16 @@ fn is_beyond(number: u64) -> bool
     number < LEAST || GREATEST < number
 }
 
+// Stores a number that is kept as that of point k.
+fn store_kept(points: &mut [u8], k: usize, number: u64)
+    requires { ⌜ Near number × ((k + 1) * pointSize ≤ length (now points)) ⌝ }
+    ensures { λ _. ⌜ now (points .exit) ≡ sets (now (points .entry)) (k * pointSize + 1) (bigEndian 8 (twosComplement (kept number))) ⌝ }
+{
+    layout::store_signed(points, k, signed(number));
+}
+
 // Restores point k. "Missing points do not advance this."
-fn restored(
+fn point_restored(
     order: usize,
     descriptors: Descriptors,
     restoring: Restoring,
@@ -150,7 +160,7 @@ fn restored(
     if is_beyond(next.previous) {
         return Turn::Beyond;
     }
-    layout::store_signed(points, k, signed(next.previous));
+    store_kept(points, k, next.previous);
     Turn::On(next)
 }
 
@@ -166,7 +176,7 @@ fn later_restored(
     count: usize,
 ) -> bool
     requires { ⌜ (0 < order) × (order ≤ 2) × Bounded descriptors × Steady order (settled previous before) × (start ≤ count) × (count * pointSize ≤ length (now points)) ⌝ }
-    ensures { λ r. ⌜ ((lent : List ℕ) → Passing order descriptors count lent (settled previous before) start (now (points .entry)) → (packed : List DecodedValue) → Holding packed count lent → Outcome (from order descriptors (firstRestoring order) packed) packed r lent (now (points .exit))) ⌝ }
+    ensures { λ r. ⌜ Onward order descriptors count (settled previous before) start (now (points .entry)) r (now (points .exit)) ⌝ }
 {
     let mut restoring = Restoring {
         left: 0,
@@ -175,7 +185,7 @@ fn later_restored(
     };
     let mut k = start;
     while k < count {
-        let Turn::On(next) = restored(order, descriptors, restoring, points, k) else {
+        let Turn::On(next) = point_restored(order, descriptors, restoring, points, k) else {
             return false;
         };
         restoring = next;
@@ -187,7 +197,7 @@ fn later_restored(
 // Restores all points, as far as none is beyond.
 fn all_restored(order: usize, descriptors: Descriptors, points: &mut [u8], count: usize) -> bool
     requires { ⌜ (0 < order) × (order ≤ 2) × Bounded descriptors × (count * pointSize ≤ length (now points)) ⌝ }
-    ensures { λ r. ⌜ ((packed : List DecodedValue) → Holding packed count (now (points .entry)) → Outcome (from order descriptors (firstRestoring order) packed) packed r (now (points .entry)) (now (points .exit))) ⌝ }
+    ensures { λ r. ⌜ Onward order descriptors count (firstRestoring order) 0 (now (points .entry)) r (now (points .exit)) ⌝ }
 {
     let mut restoring = Restoring {
         left: order,
@@ -201,7 +211,7 @@ fn all_restored(order: usize, descriptors: Descriptors, points: &mut [u8], count
             let before = restoring.before;
             return later_restored(order, descriptors, previous, before, points, k, count);
         }
-        let Turn::On(next) = restored(order, descriptors, restoring, points, k) else {
+        let Turn::On(next) = point_restored(order, descriptors, restoring, points, k) else {
             return false;
         };
         restoring = next;
@@ -213,7 +223,7 @@ fn all_restored(order: usize, descriptors: Descriptors, points: &mut [u8], count
 // Restores the packed points in the lent octets, and answers whether all numbers are within 2^60 either way. The order is
 // handed on as a constant, so that it is not asked for at each point.
 pub fn restore(differencing: Differencing, payload: &[u8], points: &mut [u8], count: usize) -> bool
-    requires { ⌜ Orderly differencing × (count ≤ 4194304) × (count * pointSize ≤ length (now points)) ⌝ }
+    requires { ⌜ Orderly differencing × (count ≤ limit) × (count * pointSize ≤ length (now points)) ⌝ }
     ensures { λ r. ⌜ ((packed : List DecodedValue) → Holding packed count (now (points .entry)) → Restored differencing (now (payload .entry)) packed r (now (points .entry)) (now (points .exit))) ⌝ }
 {
     let descriptors = descriptors_of(differencing, payload);

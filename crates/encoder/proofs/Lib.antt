@@ -1,4 +1,3 @@
 pub mod Storing
 pub mod Resting
-pub mod Meaning
-pub mod Parcelling
+pub mod Outcome

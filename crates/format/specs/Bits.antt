@@ -1,4 +1,5 @@
--- Document 01, "Bit fields". Assumes nothing.
+-- Document 01, "Bit fields". Here and on all pages x − y is 0 where y is above x, x / 0 is 0, and a list has 0 past its end
+-- (`getD .. 0`). Assumes nothing.
 use Prim.Native.Nat.{ℕ, zero, suc, _+_, _-_, _*_, _/_, _%_, _^_}
 use mathlib.Core.Bool.{cond}
 use mathlib.Core.List.{List, [], _∷_, _++_}

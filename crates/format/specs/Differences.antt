@@ -7,10 +7,10 @@ use lib.ListN.{length, replicate}
 use lib.IntN.{ℤ, pos, negℤ, natAbs, _+ℤ_, _-ℤ_}
 use Rattle.format.specs.Lists.{anyOf, _over_}
 use Rattle.format.specs.Bits.{bitAt, numberAt, fieldOf}
-use Rattle.format.specs.Layout.{pointOctets}
-use Rattle.format.specs.Refusals.{Row, _gives_, first, Left, left}
+use Rattle.format.specs.Layout.{pointSize, pointOctets}
+use Rattle.format.specs.Refusals.{Row, _gives_, first, roomRefusals, Left, left}
 use Rattle.format.specs.Template.{descriptorsEnd, orderRefusals, kindRefusals, descriptorRefusals}
-use Rattle.format.specs.Unpacking.{codesOf, pointsBefore, saidBy, pointsUpTo, locatedBy, locatedRefusals, countRefusals, roomRefusals}
+use Rattle.format.specs.Unpacking.{Codes, codesOf, Said, saidBy, pointsUpTo, locatedRefusals, countedRefusals, locatedBy}
 use Rattle.format.specs.declared.Refusal.the-variants.{Short, Beyond}
 use Rattle.format.specs.declared.Template.{Template}
 use Rattle.format.specs.declared.Differencing.{Differencing}
@@ -65,38 +65,38 @@ beyond (Normal number) = ltb (2 ^ 60) (natAbs number)
 beyond Missing1 = false
 beyond Missing2 = false
 
--- all points of a payload, from the packed ones
-abbrev pub restoredFrom : Differencing → List ℕ → List DecodedValue → List DecodedValue
-restoredFrom d payload packed =
-    let descriptors = descriptorsOf d payload in
-    restored (d .order) (descriptors .firsts) (pos 0) (pos 0) (map (raised (descriptors .minimum)) packed)
+-- the points of what a payload says, from the packed ones
+abbrev pub restoredFrom : ℕ → Descriptors → List DecodedValue → List DecodedValue
+restoredFrom order descriptors packed =
+    restored order (descriptors .firsts) (pos 0) (pos 0) (map (raised (descriptors .minimum)) packed)
 
-unfoldable pub points53 : Template → Differencing → List ℕ → List DecodedValue
-points53 t d payload = restoredFrom d payload (pointsUpTo t (saidBy (descriptorsEnd d) t payload) (t .groups))
+unfoldable pub points53 : Template → ℕ → Descriptors → Said → List DecodedValue
+points53 t order descriptors said = restoredFrom order descriptors (pointsUpTo t said (t .groups))
 
--- "7 for descriptors"
-abbrev pub descriptorsShort : Differencing → List ℕ → List Row
-descriptorsShort d payload =
-    ltb (length payload) (descriptorsEnd d) gives Short
+-- "7 for descriptors", in a payload of so many octets
+abbrev pub descriptorsShort : Differencing → ℕ → List Row
+descriptorsShort d octets =
+    ltb octets (descriptorsEnd d) gives Short
     ∷ []
 
--- 3, 1, 2, 4, "7 for descriptors, then from 6 on as for 5.2", as far as 7 for the values
-abbrev pub located53Refusals : Template → Differencing → List ℕ → List Row
-located53Refusals t d payload =
-    orderRefusals d ++ kindRefusals t ++ descriptorRefusals d ++ descriptorsShort d payload
-    ++ locatedRefusals (descriptorsEnd d) t payload
+-- "For 5.3: 3, 1, 2, 4, 7 for descriptors"
+abbrev pub describedRefusals : Template → Differencing → ℕ → List Row
+describedRefusals t d octets = orderRefusals d ++ kindRefusals t ++ descriptorRefusals d ++ descriptorsShort d octets
 
+-- "then from 6 on as for 5.2", as far as 7 for the values
 unfoldable pub locate53 : Template → Differencing → List ℕ → Located
-locate53 t d payload = locatedBy (located53Refusals t d payload) (descriptorsEnd d) t payload
+locate53 t d payload =
+    let start = descriptorsEnd d in
+    let codes = codesOf start t payload in
+    locatedBy (describedRefusals t d (length payload) ++ locatedRefusals start t (length payload) codes) start t codes
 
--- "For 5.3: 3, 1, 2, 4, 7 for descriptors, then from 6 on as for 5.2, 12 last."
-abbrev pub refusals53 : Template → Differencing → ℕ → List ℕ → List ℕ → List Row
-refusals53 t d declared payload lent =
-    located53Refusals t d payload
-    ++ countRefusals (pointsBefore t (codesOf (descriptorsEnd d) t payload) (t .groups)) declared
-    ++ roomRefusals (length lent) declared
+-- as far as 10
+abbrev pub refusals53 : Template → Differencing → ℕ → ℕ → Codes → List ℕ → List Row
+refusals53 t d declared octets codes lent =
+    describedRefusals t d octets ++ countedRefusals (descriptorsEnd d) t declared octets codes
+    ++ roomRefusals pointSize lent declared
 
--- 12, "last": "12 leaves number 0 and mark 0 in the declared places"
+-- "12 last.": "12 leaves number 0 and mark 0 in the declared places"
 unfoldable pub left53 : ℕ → List DecodedValue → List ℕ → Left Unpacked
 left53 declared points lent =
     first (λ r. left (unpacked.Refused r) (flatMap pointOctets (replicate declared (Normal (pos 0))) over lent))
@@ -105,5 +105,6 @@ left53 declared points lent =
 
 unfoldable pub unpack53 : Template → Differencing → ℕ → List ℕ → List ℕ → Left Unpacked
 unpack53 t d declared payload lent =
-    first (λ r. left (unpacked.Refused r) lent) (refusals53 t d declared payload lent)
-    (left53 declared (points53 t d payload) lent)
+    let said = saidBy (descriptorsEnd d) t payload in
+    first (λ r. left (unpacked.Refused r) lent) (refusals53 t d declared (length payload) (said .codes) lent)
+    (left53 declared (points53 t (d .order) (descriptorsOf d payload) said) lent)

@@ -4,10 +4,10 @@ use mathlib.Core.Bool.{Bool, cond}
 use mathlib.Core.List.{List, [], _∷_, _++_, flatMap}
 use lib.Dec.{eqb, ltb}
 use lib.ListN.{length, take}
-use Rattle.format.specs.Lists.{greatest, least, anyOf, _over_}
-use Rattle.format.specs.Layout.{wholeOnes, groupNumbers}
-use Rattle.format.specs.Refusals.{Row, _gives_, first, Left, left}
-use Rattle.format.specs.declared.Refusal.the-variants.{Numbers, Room}
+use Rattle.format.specs.Lists.{greatest, least, anyOf, wholeOnes, _over_}
+use Rattle.format.specs.Layout.{numbersPerGroup, groupNumbers}
+use Rattle.format.specs.Refusals.{Row, _gives_, first, limit, roomRefusals, Left, left}
+use Rattle.format.specs.declared.Refusal.the-variants.{Numbers}
 use Rattle.format.specs.declared.Group.{Group}
 use Rattle.format.specs.declared.Grouped.{Grouped}
 use Rattle.format.specs.declared.Grouped.the-variants as grouped
@@ -67,17 +67,21 @@ groups01 k numbers = groupsOf widthOf 0 k numbers
 abbrev pub numberRefusals : ℕ → List ℕ → List Row
 numberRefusals k numbers =
     eqb (length numbers) 0 gives Numbers
-    ∷ ltb 4194304 (length numbers) gives Numbers
+    ∷ ltb limit (length numbers) gives Numbers
     ∷ anyOf (ltb 2147483647) numbers gives Numbers
     ∷ eqb k 0 gives Numbers
     ∷ ltb 65535 k gives Numbers
     ∷ []
 
--- The groups of a list, in lent slots of four numbers each. "10 for the group list leaves the first groups in all lent slots"
+-- "The groups go to a lent list of groups", which holds `size` numbers or octets a group. "10 for the group list leaves the
+-- first groups in all lent slots": as many groups are left as it has slots for
+abbrev pub groupsLent : (Group → List ℕ) → ℕ → List Group → List ℕ → Left Grouped
+groupsLent stored size groups lent =
+    left (first grouped.Refused (roomRefusals size lent (length groups)) (grouped.Groups (length groups)))
+    (flatMap stored (take (wholeOnes size lent) groups) over lent)
+
+-- the groups of a list, in lent slots of four numbers each
 unfoldable pub groupNumbersOf : ℕ → List ℕ → List ℕ → Left Grouped
 groupNumbersOf k numbers lent =
-    let groups = recordsFrom 0 (groups01 k numbers) in
     first (λ r. left (grouped.Refused r) lent) (numberRefusals k numbers)
-    (first (λ r. left (grouped.Refused r) (flatMap groupNumbers (take (wholeOnes 4 lent) groups) over lent))
-    (ltb (wholeOnes 4 lent) (length groups) gives Room ∷ [])
-    (left (grouped.Groups (length groups)) (flatMap groupNumbers groups over lent)))
+    (groupsLent groupNumbers numbersPerGroup (recordsFrom 0 (groups01 k numbers)) lent)

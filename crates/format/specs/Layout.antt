@@ -1,11 +1,10 @@
 -- Document 01, "Port order and changes of shape": how points, levels, numbers and groups lie in lent octets, "all
 -- big-endian; spare octets short of a whole one are not used". Assumes nothing.
-use Prim.Native.Nat.{ℕ, suc, _+_, _-_, _*_, _/_, _%_, _^_}
+use Prim.Native.Nat.{ℕ, suc, _-_, _*_, _/_, _%_, _^_}
 use mathlib.Core.List.{List, [], _∷_, flatMap}
-use lib.ListN.{length}
 use lib.IntN.{ℤ, pos, negsuc}
-use Rattle.format.specs.Lists.{listed}
-use Rattle.format.specs.Bits.{numberAt, fieldOf}
+use Rattle.format.specs.Lists.{listed, wholeOnes}
+use Rattle.format.specs.Bits.{fieldOf}
 use Rattle.format.specs.declared.DecodedValue.{DecodedValue}
 use Rattle.format.specs.declared.DecodedValue.the-variants.{Normal, Missing1, Missing2}
 use Rattle.format.specs.declared.Group.{Group}
@@ -14,16 +13,15 @@ use Rattle.format.specs.declared.Group.{Group}
 abbrev pub bigEndian : ℕ → ℕ → List ℕ
 bigEndian n x = listed n (λ i. x / 256 ^ (n - suc i) % 256)
 
--- as many things of n octets each as lie whole in the octets
-abbrev pub wholeOnes : ℕ → List ℕ → ℕ
-wholeOnes n octets = length octets / n
-
 -- "A number to pack and each of a group's four numbers take four octets"
+abbrev pub numberSize : ℕ
+numberSize = 4
+
 abbrev pub numbersIn : List ℕ → List ℕ
-numbersIn octets = fieldOf octets 0 32 (wholeOnes 4 octets)
+numbersIn octets = fieldOf octets 0 32 (wholeOnes numberSize octets)
 
 abbrev pub inFours : List ℕ → List ℕ
-inFours numbers = flatMap (bigEndian 4) numbers
+inFours numbers = flatMap (bigEndian numberSize) numbers
 
 -- "a level two"
 abbrev pub levelSize : ℕ
@@ -59,17 +57,11 @@ pointOctets d = markOf d ∷ bigEndian 8 (twosComplement (heldBy d))
 abbrev pub groupNumbers : Group → List ℕ
 groupNumbers g = g .start ∷ g .length ∷ g .least ∷ g .width ∷ []
 
+abbrev pub numbersPerGroup : ℕ
+numbersPerGroup = 4
+
 abbrev pub groupSize : ℕ
-groupSize = 16
+groupSize = numbersPerGroup * numberSize
 
--- group k of those in the octets, and the first n
-abbrev pub groupAt : List ℕ → ℕ → Group
-groupAt octets k = record {
-  start = numberAt octets (k * 4 * 32) 32;
-  length = numberAt octets ((k * 4 + 1) * 32) 32;
-  least = numberAt octets ((k * 4 + 2) * 32) 32;
-  width = numberAt octets ((k * 4 + 3) * 32) 32;
-}
-
-abbrev pub groupsIn : List ℕ → ℕ → List Group
-groupsIn octets n = listed n (groupAt octets)
+abbrev pub groupOctets : Group → List ℕ
+groupOctets g = inFours (groupNumbers g)

@@ -1,5 +1,5 @@
 -- Words for lists that the other pages use. Assumes nothing.
-use Prim.Native.Nat.{ℕ, zero, suc, _+_, max, min}
+use Prim.Native.Nat.{ℕ, zero, suc, _+_, _/_, max, min}
 use mathlib.Core.Bool.{Bool, false, _||_}
 use mathlib.Core.List.{List, [], _∷_, _++_}
 use lib.ListN.{length, drop}
@@ -33,6 +33,10 @@ unfoldable pub least : List ℕ → ℕ
 least [] = 0
 least (x ∷ []) = x
 least (x ∷ y ∷ ys) = min x (least (y ∷ ys))
+
+-- "spare octets short of a whole one are not used": as many things of that size, in octets or in numbers, as lie whole in a list
+abbrev pub wholeOnes : {A : Type 0} → ℕ → List A → ℕ
+wholeOnes size xs = length xs / size
 
 -- "After success, places past the answer are unchanged.": a lent buffer with xs at its front
 infix 60 _over_

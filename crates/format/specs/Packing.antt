@@ -3,12 +3,13 @@ use Prim.Native.Nat.{ℕ, zero, suc, _-_, _/_, _%_}
 use mathlib.Core.Bool.{cond}
 use mathlib.Core.List.{List, [], _∷_, _++_, map, flatMap}
 use lib.Dec.{eqb, leb, ltb}
-use lib.ListN.{length, take, getD}
+use lib.ListN.{length, getD}
 use Rattle.format.specs.Lists.{greatest, least, _over_}
 use Rattle.format.specs.Bits.{roundedUp, stringOf, octetsOf}
-use Rattle.format.specs.Layout.{inFours, wholeOnes, groupSize, groupNumbers}
-use Rattle.format.specs.Refusals.{_gives_, first}
-use Rattle.format.specs.Grouping.{bits, widthOf, groups01, recordsFrom, numberRefusals}
+use Rattle.format.specs.Layout.{inFours, groupSize, groupOctets}
+use Rattle.format.specs.Refusals.{_gives_, first, roomRefusals}
+use Rattle.format.specs.Template.{templateNumbers}
+use Rattle.format.specs.Grouping.{bits, widthOf, groupsOf, recordsFrom, numberRefusals, groupsLent}
 use Rattle.format.specs.declared.Refusal.the-variants.{Room}
 use Rattle.format.specs.declared.Template.{Template}
 use Rattle.format.specs.declared.Lengths.{Lengths}
@@ -54,7 +55,7 @@ butLast (x ∷ y ∷ ys) = x ∷ butLast (y ∷ ys)
 
 -- "With one group, length reference, increment and length bits are 0. Otherwise take all lengths but the last: reference =
 -- least, step = the greatest common divisor [..] of the differences from it. [..] Length bits = bits(greatest difference /
--- increment).": with one group there is no length but the last, and all three come to 0
+-- increment).": with one group there is no length but the last, and all three come to 0; at increment 0 a quotient is 0
 unfoldable pub lengthCoding : List ℕ → Lengths
 lengthCoding lengths =
     let reference = least (butLast lengths) in
@@ -77,10 +78,6 @@ templateOf numbers groups = record {
   widths = widthCoding (map widthOf groups);
   lengths = lengthCoding (map length groups);
 }
-
--- "both missing values 0xffffffff"
-abbrev pub missingValue : ℕ
-missingValue = 0xffffffff
 
 -- ---- payload
 
@@ -108,8 +105,6 @@ payloadOf t groups =
 
 pub record Packing : Type 0 where
   pub template : Template
-  pub primaryMissing : ℕ
-  pub secondaryMissing : ℕ
   pub records : List Group
   pub payload : List ℕ
 
@@ -117,26 +112,23 @@ pub record Packing : Type 0 where
 unfoldable pub packingOf : List ℕ → List (List ℕ) → Packing
 packingOf numbers groups = record {
   template = templateOf numbers groups;
-  primaryMissing = missingValue;
-  secondaryMissing = missingValue;
   records = recordsFrom 0 groups;
   payload = payloadOf (templateOf numbers groups) groups;
 }
 
--- "Packing's eight template numbers, in the order of the cases, the group count and the payload length go to a lent 40 octets"
-abbrev pub templateNumbers : Template → List ℕ
-templateNumbers t =
-    t .width ∷ t .groups ∷ t .widths .reference ∷ t .widths .bits
-    ∷ t .lengths .reference ∷ t .lengths .increment ∷ t .lengths .last ∷ t .lengths .bits ∷ []
+-- "both missing values 0xffffffff", for whoever writes them: no operation of document 01 hands them over
+abbrev pub missingValue : ℕ
+missingValue = 0xffffffff
 
-abbrev pub summaryNumbers : Packing → List ℕ
-summaryNumbers p = templateNumbers (p .template) ++ (length (p .records) ∷ length (p .payload) ∷ [])
+-- "Packing's eight template numbers, in the order of the cases, the group count and the payload length go to a lent 40 octets"
+abbrev pub summaryNumbers : Template → ℕ → ℕ → List ℕ
+summaryNumbers t groups octets = templateNumbers t ++ (groups ∷ octets ∷ [])
 
 abbrev pub summarySize : ℕ
 summarySize = 40
 
 -- what packing comes to: its answer, and what was lent, as it is left
-pub record Parcelled : Type 0 where
+pub record LeftPacked : Type 0 where
   pub answer : Packed
   pub groups : List ℕ
   pub payload : List ℕ
@@ -144,21 +136,22 @@ pub record Parcelled : Type 0 where
 
 -- "Packing: 13, 10 for the group list, 10 for the payload." The 40 octets are "tested for 10 before the group list and changed
 -- only by success". "10 for the group list leaves the first groups in all lent slots; 10 for the payload leaves the groups
--- written."
-unfoldable pub pack : ℕ → List ℕ → List ℕ → List ℕ → List ℕ → Parcelled
-pack k numbers groups payload summary =
-    let p = packingOf numbers (groups01 k numbers) in
-    let slots = wholeOnes groupSize groups in
-    let stored : List Group → List ℕ = λ records. inFours (flatMap groupNumbers records) over groups in
+-- written." The rule for groups may add a cost for ending one.
+unfoldable pub packBy : ℕ → ℕ → List ℕ → List ℕ → List ℕ → List ℕ → LeftPacked
+packBy added k numbers groups payload summary =
+    let p = packingOf numbers (groupsOf widthOf added k numbers) in
+    let listed = groupsLent groupOctets groupSize (p .records) groups .buffer in
     first (λ r. record { answer = packed.Refused r; groups = groups; payload = payload; summary = summary })
     (numberRefusals k numbers ++ (ltb (length summary) summarySize gives Room ∷ []))
-    (first (λ r. record { answer = packed.Refused r; groups = stored (take slots (p .records)); payload = payload; summary = summary })
-    (ltb slots (length (p .records)) gives Room ∷ [])
-    (first (λ r. record { answer = packed.Refused r; groups = stored (p .records); payload = payload; summary = summary })
-    (ltb (length payload) (length (p .payload)) gives Room ∷ [])
+    (first (λ r. record { answer = packed.Refused r; groups = listed; payload = payload; summary = summary })
+    (roomRefusals groupSize groups (length (p .records)) ++ (ltb (length payload) (length (p .payload)) gives Room ∷ []))
     (record {
       answer = packed.Payload (p .template) (record { 0 = length (p .payload) });
-      groups = stored (p .records);
+      groups = listed;
       payload = p .payload over payload;
-      summary = inFours (summaryNumbers p) over summary;
-    })))
+      summary = inFours (summaryNumbers (p .template) (length (p .records)) (length (p .payload))) over summary;
+    }))
+
+-- document 01's rule adds none
+abbrev pub pack : ℕ → List ℕ → List ℕ → List ℕ → List ℕ → LeftPacked
+pack = packBy 0

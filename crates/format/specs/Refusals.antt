@@ -1,7 +1,9 @@
 -- Document 01, "What each number says". Assumes nothing.
 use Prim.Native.Nat.{ℕ}
-use mathlib.Core.Bool.{Bool, true, false}
+use mathlib.Core.Bool.{Bool, true, false, not}
 use mathlib.Core.List.{List, [], _∷_}
+use lib.Dec.{eqb, ltb}
+use Rattle.format.specs.Lists.{wholeOnes}
 use Rattle.format.specs.declared.Refusal.{Refusal}
 use Rattle.format.specs.declared.Refusal.the-variants.{Splitting, Management, Order, Descriptors, Width, GroupCount, Short, GroupSize, Points, Room, Repeat, Beyond, Numbers}
 use Rattle.format.specs.declared.Fetched.{Fetched}
@@ -45,6 +47,23 @@ unfoldable pub first : {A : Type 0} → (Refusal → A) → List Row → A → A
 first refused [] a = a
 first refused (true gives r ∷ rows) a = refused r
 first refused (false gives r ∷ rows) a = first refused rows a
+
+-- "4,194,304": no more groups, points or numbers than that
+abbrev pub limit : ℕ
+limit = 4194304
+
+-- 9: "points do not equal the declared count, or that count is above 4,194,304"
+abbrev pub countRefusals : ℕ → ℕ → List Row
+countRefusals points declared =
+    not (eqb points declared) gives Points
+    ∷ ltb limit declared gives Points
+    ∷ []
+
+-- 10: "a lent buffer is too small" for n things of a size
+abbrev pub roomRefusals : ℕ → List ℕ → ℕ → List Row
+roomRefusals size lent n =
+    ltb (wholeOnes size lent) n gives Room
+    ∷ []
 
 -- "The call returns the refusal's number, or 0."
 abbrev pub fetchedNumber : Fetched → ℕ

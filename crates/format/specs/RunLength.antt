@@ -1,26 +1,20 @@
 -- Document 01, "Run-length, template 7.200". Assumes nothing.
 use Prim.Native.Nat.{ℕ, _-_, _*_, _/_, _^_}
-use mathlib.Core.Bool.{Bool, false, not, cond}
+use mathlib.Core.Bool.{Bool, false, cond}
 use mathlib.Core.List.{List, [], _∷_, _++_, flatMap}
 use lib.Dec.{eqb, ltb}
 use lib.ListN.{length, replicate}
 use Rattle.format.specs.Lists.{_over_}
 use Rattle.format.specs.Bits.{fieldOf}
-use Rattle.format.specs.Layout.{levelSize, levelOctets, wholeOnes}
-use Rattle.format.specs.Refusals.{Row, _gives_, first, Left, left}
-use Rattle.format.specs.declared.Refusal.the-variants.{Width, Repeat, Points, Room}
+use Rattle.format.specs.Layout.{levelSize, levelOctets}
+use Rattle.format.specs.Refusals.{Row, _gives_, first, countRefusals, roomRefusals, Left, left}
+use Rattle.format.specs.declared.Refusal.the-variants.{Width, Repeat}
 use Rattle.format.specs.declared.Unrolled.{Unrolled}
 use Rattle.format.specs.declared.Unrolled.the-variants as unrolled
 
--- "All whole codes in the payload are read; fewer than b bits at the end are ignored.": how many are read from bit p on
-unfoldable pub codesLeft : ℕ → List ℕ → ℕ → ℕ
-codesLeft b payload p = (length payload * 8 - p) / b
-
-abbrev pub codesFrom : ℕ → List ℕ → ℕ → List ℕ
-codesFrom b payload p = fieldOf payload p b (codesLeft b payload p)
-
+-- "All whole codes in the payload are read; fewer than b bits at the end are ignored."
 abbrev pub codesIn : ℕ → List ℕ → List ℕ
-codesIn b payload = codesFrom b payload 0
+codesIn b payload = fieldOf payload 0 b (length payload * 8 / b)
 
 -- "With b bits and greatest level M, codes 0 to M are levels; the base is 2^b − 1 − M."
 abbrev pub baseOf : ℕ → ℕ → ℕ
@@ -48,14 +42,13 @@ levelsIn b M payload = levelsOf M (baseOf b M) 0 1 (codesIn b payload)
 -- 5: "run-length b not 1 to 15 or M above 2^b − 1"
 abbrev pub runLengthRefusals : ℕ → ℕ → ℕ → List ℕ → List ℕ → List Row
 runLengthRefusals b M declared payload lent =
-    eqb b 0 gives Width
+    (eqb b 0 gives Width
     ∷ ltb 15 b gives Width
     ∷ ltb (2 ^ b - 1) M gives Width
     ∷ repeatsFirst M (codesIn b payload) gives Repeat
-    ∷ not (eqb (length (levelsIn b M payload)) declared) gives Points
-    ∷ ltb 4194304 declared gives Points
-    ∷ ltb (wholeOnes levelSize lent) declared gives Room
-    ∷ []
+    ∷ [])
+    ++ countRefusals (length (levelsIn b M payload)) declared
+    ++ roomRefusals levelSize lent declared
 
 unfoldable pub runLength : ℕ → ℕ → ℕ → List ℕ → List ℕ → Left Unrolled
 runLength b M declared payload lent =

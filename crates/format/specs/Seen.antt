@@ -7,11 +7,12 @@ use lib.IntN.{pos}
 use Rattle.format.specs.Refusals.{Left, fetchedNumber, storedNumber, locatedNumber, unpackedNumber, unrolledNumber, groupedNumber, packedNumber}
 use Rattle.format.specs.Bits.{readField, writeField}
 use Rattle.format.specs.Layout.{pointSize, pointOctets, levelSize, levelOctets, groupSize, inFours}
+use Rattle.format.specs.Template.{templateNumbers, templateBy}
 use Rattle.format.specs.Unpacking.{unpack52}
 use Rattle.format.specs.Differences.{unpack53}
 use Rattle.format.specs.RunLength.{runLength}
 use Rattle.format.specs.Grouping.{groupNumbersOf}
-use Rattle.format.specs.Packing.{Packing, summarySize, pack}
+use Rattle.format.specs.Packing.{Packing, missingValue, summarySize, pack}
 use Rattle.format.specs.declared.Template.{Template}
 use Rattle.format.specs.declared.DecodedValue.{DecodedValue}
 use Rattle.format.specs.declared.DecodedValue.the-variants.{Normal}
@@ -80,9 +81,9 @@ group start count least width = start ∷ count ∷ least ∷ width ∷ []
 
 -- template numbers, payload and groups
 abbrev pub packs : List ℕ → List ℕ → List (List ℕ) → Seen
-packs templateNumbers payload groups =
-    answered (templateNumbers ++ (length payload ∷ []))
-    (flatMap inFours groups ∷ payload ∷ inFours (templateNumbers ++ (length groups ∷ length payload ∷ [])) ∷ [])
+packs template payload groups =
+    answered (template ++ (length payload ∷ []))
+    (flatMap inFours groups ∷ payload ∷ inFours (template ++ (length groups ∷ length payload ∷ [])) ∷ [])
 
 -- ---- what operations show
 
@@ -94,29 +95,18 @@ readingIn octets start width count room =
 abbrev pub reading : List ℕ → ℕ → ℕ → ℕ → Seen
 reading octets start width count = readingIn octets start width count count
 
-abbrev spanOf : Stored → List ℕ
-spanOf (stored.Span octets) = octets .0 ∷ []
-spanOf (stored.Refused r) = []
+abbrev spanAnswered : Stored → List ℕ
+spanAnswered (stored.Span octets) = octets .0 ∷ []
+spanAnswered (stored.Refused r) = []
 
 abbrev pub writing : List ℕ → ℕ → ℕ → ℕ → Seen
 writing xs start width octets =
     let r = writeField xs start width (lent octets) in
-    record { number = storedNumber (r .answer); answers = spanOf (r .answer); left = r .buffer ∷ [] }
+    record { number = storedNumber (r .answer); answers = spanAnswered (r .answer); left = r .buffer ∷ [] }
 
--- "Template numbers are listed as: number width; groups; width reference, width bits; length reference, increment, last, bits.
--- Management is 0 [..] unless said."
-abbrev pub templateBy : ℕ → ℕ → ℕ → ℕ → ℕ → ℕ → ℕ → ℕ → ℕ → ℕ → Template
-templateBy splitting management width groups widthReference widthBits lengthReference increment last lengthBits = record {
-  width = width;
-  splitting = splitting;
-  management = management;
-  groups = groups;
-  widths = record { reference = widthReference; bits = widthBits };
-  lengths = record { reference = lengthReference; increment = increment; last = last; bits = lengthBits };
-}
-
+-- missing management, then the numbers as they are listed
 abbrev pub template : ℕ → ℕ → ℕ → ℕ → ℕ → ℕ → ℕ → ℕ → ℕ → Template
-template = templateBy 1
+template management width = templateBy width 1 management
 
 abbrev countOf : Unpacked → List ℕ
 countOf (unpacked.Points count) = count ∷ []
@@ -168,14 +158,12 @@ grouping k xs room =
     record { number = groupedNumber (r .answer); answers = groupCount (r .answer); left = r .buffer ∷ [] }
 
 abbrev packedAnswers : Packed → List ℕ
-packedAnswers (packed.Payload t octets) =
-    t .width ∷ t .groups ∷ t .widths .reference ∷ t .widths .bits ∷ t .lengths .reference ∷ t .lengths .increment
-    ∷ t .lengths .last ∷ t .lengths .bits ∷ octets .0 ∷ []
+packedAnswers (packed.Payload t octets) = templateNumbers t ++ (octets .0 ∷ [])
 packedAnswers (packed.Refused r) = []
 
--- what no call hands over: splitting method, missing management and the two missing values
+-- what no call hands over: splitting method, missing management and the missing values
 abbrev pub kindNumbers : Packing → List ℕ
-kindNumbers p = p .template .splitting ∷ p .template .management ∷ p .primaryMissing ∷ p .secondaryMissing ∷ []
+kindNumbers p = p .template .splitting ∷ p .template .management ∷ missingValue ∷ []
 
 -- room for g groups, n octets of payload and so many of the summary
 abbrev pub packingIn : ℕ → List ℕ → ℕ → ℕ → ℕ → Seen

@@ -6,16 +6,16 @@ use Prim.Native.Nat.{ℕ, zero, suc, _+_, _^_}
 use lib.Dec.{eqb, ltb}
 use lib.ListN.{replicate, length-replicate}
 use lib.IntN.{pos, negsuc, negℤ}
-use Rattle.format.specs.Seen.{Case, _shows_, AllHold, lent, refused, answered, numbers, spanned, number, points, levels, group, packs, readingIn, writing, templateBy, template, unpacks, unpackingIn, unpacking, restoringIn, restoring, locates, unrollingIn, unrolling, grouping, kindNumbers, packingIn, packing}
+use Rattle.format.specs.Seen.{Case, _shows_, AllHold, lent, refused, answered, numbers, spanned, number, points, levels, group, packs, readingIn, writing, template, unpacks, unpackingIn, unpacking, restoringIn, restoring, locates, unrollingIn, unrolling, grouping, kindNumbers, packingIn, packing}
 use Rattle.format.specs.Lists.{listed, total, joined, anyOf, greatest, least}
 use Rattle.format.specs.Refusals.{_gives_, first}
 use Rattle.format.specs.Bits.{bitIn, numberOf, spanOf, readField, writeField}
-use Rattle.format.specs.Template.{widthsAt, lengthsAt, valuesAt}
+use Rattle.format.specs.Template.{templateBy, widthsAt, lengthsAt, valuesAt}
 use Rattle.format.specs.Unpacking.{codesOf, referenceOf, saidBy, groupWidth, groupLength, pointsBefore, bitsBefore, wrongGroup, decoded, pointOf, pointAt, pointsUpTo, placesOf, partOf, locate52, unpack52}
 use Rattle.format.specs.Differences.{descriptorsOf, raised, expected, restored, beyond, points53, locate53, left53, unpack53}
-use Rattle.format.specs.RunLength.{codesLeft, levelsOf, repeatsFirst, levelsIn, runLength}
+use Rattle.format.specs.RunLength.{levelsOf, repeatsFirst, levelsIn, runLength}
 use Rattle.format.specs.Grouping.{digitsIn, bits, widthOf, endsBefore, groupsFrom, groupsOf, recordsFrom, numberRefusals, groupNumbersOf}
-use Rattle.format.specs.Packing.{summarySize, widthCoding, gcdIn, gcd, gcdFrom, divisorUpTo, incrementOf, butLast, lengthCoding, templateOf, lengthCodes, valueString, payloadOf, packingOf, pack}
+use Rattle.format.specs.Packing.{summarySize, widthCoding, gcdIn, gcd, gcdFrom, divisorUpTo, incrementOf, butLast, lengthCoding, templateOf, lengthCodes, valueString, payloadOf, packingOf, packBy}
 use Rattle.format.specs.Layout.{pointOctets, levelOctets, numbersIn, inFours}
 use Rattle.format.specs.declared.Refusal.the-variants.{Numbers}
 use Rattle.format.specs.declared.Part.the-variants.{References, Lengths, Values}
@@ -25,33 +25,33 @@ abbrev pub sentences : List Case
 sentences =
     -- the order of refusals: all faults at once, then one fewer each time
     -- 5.2
-    unpackingIn (templateBy 0 3 32 0 32 0 0 0 4 0) 5 [] 35 shows refused 1 (lent 35 ∷ [])
-    ∷ unpackingIn (templateBy 1 3 32 0 32 0 0 0 4 0) 5 [] 35 shows refused 2 (lent 35 ∷ [])
-    ∷ unpackingIn (templateBy 1 0 32 0 32 0 0 0 4 0) 5 [] 35 shows refused 6 (lent 35 ∷ [])
-    ∷ unpackingIn (templateBy 1 0 32 1 32 0 0 0 4 0) 5 [] 35 shows refused 5 (lent 35 ∷ [])
-    ∷ unpackingIn (templateBy 1 0 8 1 32 0 0 0 4 0) 5 [] 35 shows refused 7 (lent 35 ∷ [])
-    ∷ unpackingIn (templateBy 1 0 8 1 32 0 0 0 4 0) 5 (0x00 ∷ []) 35 shows refused 8 (lent 35 ∷ [])
-    ∷ unpackingIn (templateBy 1 0 8 1 3 0 0 0 4 0) 5 (0x00 ∷ []) 35 shows refused 7 (lent 35 ∷ [])
-    ∷ unpackingIn (templateBy 1 0 8 1 3 0 0 0 4 0) 5 (0x00 ∷ 0x0C ∷ 0x50 ∷ []) 35 shows refused 9 (lent 35 ∷ [])
-    ∷ unpackingIn (templateBy 1 0 8 1 3 0 0 0 4 0) 4 (0x00 ∷ 0x0C ∷ 0x50 ∷ []) 35 shows refused 10 (lent 35 ∷ [])
-    ∷ unpackingIn (templateBy 1 0 8 1 3 0 0 0 4 0) 4 (0x00 ∷ 0x0C ∷ 0x50 ∷ []) 36
+    unpackingIn (templateBy 32 0 3 0 32 0 0 0 4 0) 5 [] 35 shows refused 1 (lent 35 ∷ [])
+    ∷ unpackingIn (templateBy 32 1 3 0 32 0 0 0 4 0) 5 [] 35 shows refused 2 (lent 35 ∷ [])
+    ∷ unpackingIn (templateBy 32 1 0 0 32 0 0 0 4 0) 5 [] 35 shows refused 6 (lent 35 ∷ [])
+    ∷ unpackingIn (templateBy 32 1 0 1 32 0 0 0 4 0) 5 [] 35 shows refused 5 (lent 35 ∷ [])
+    ∷ unpackingIn (templateBy 8 1 0 1 32 0 0 0 4 0) 5 [] 35 shows refused 7 (lent 35 ∷ [])
+    ∷ unpackingIn (templateBy 8 1 0 1 32 0 0 0 4 0) 5 (0x00 ∷ []) 35 shows refused 8 (lent 35 ∷ [])
+    ∷ unpackingIn (templateBy 8 1 0 1 3 0 0 0 4 0) 5 (0x00 ∷ []) 35 shows refused 7 (lent 35 ∷ [])
+    ∷ unpackingIn (templateBy 8 1 0 1 3 0 0 0 4 0) 5 (0x00 ∷ 0x0C ∷ 0x50 ∷ []) 35 shows refused 9 (lent 35 ∷ [])
+    ∷ unpackingIn (templateBy 8 1 0 1 3 0 0 0 4 0) 4 (0x00 ∷ 0x0C ∷ 0x50 ∷ []) 35 shows refused 10 (lent 35 ∷ [])
+    ∷ unpackingIn (templateBy 8 1 0 1 3 0 0 0 4 0) 4 (0x00 ∷ 0x0C ∷ 0x50 ∷ []) 36
     shows points (number 0 ∷ number 3 ∷ number 0 ∷ number 5 ∷ [])
     -- 5.3, but for 12
-    ∷ restoringIn 0 0 (templateBy 0 3 32 0 32 0 0 0 4 0) 5 [] 35 shows refused 3 (lent 35 ∷ [])
-    ∷ restoringIn 1 0 (templateBy 0 3 32 0 32 0 0 0 4 0) 5 [] 35 shows refused 1 (lent 35 ∷ [])
-    ∷ restoringIn 1 0 (templateBy 1 3 32 0 32 0 0 0 4 0) 5 [] 35 shows refused 2 (lent 35 ∷ [])
-    ∷ restoringIn 1 0 (templateBy 1 0 32 0 32 0 0 0 4 0) 5 [] 35 shows refused 4 (lent 35 ∷ [])
-    ∷ restoringIn 1 1 (templateBy 1 0 32 0 32 0 0 0 4 0) 5 [] 35 shows refused 7 (lent 35 ∷ [])
-    ∷ restoringIn 1 1 (templateBy 1 0 32 0 32 0 0 0 4 0) 5 (0x0A ∷ 0x82 ∷ []) 35 shows refused 6 (lent 35 ∷ [])
-    ∷ restoringIn 1 1 (templateBy 1 0 32 1 32 0 0 0 4 0) 5 (0x0A ∷ 0x82 ∷ []) 35 shows refused 5 (lent 35 ∷ [])
-    ∷ restoringIn 1 1 (templateBy 1 0 8 1 32 0 0 0 4 0) 5 (0x0A ∷ 0x82 ∷ []) 35 shows refused 7 (lent 35 ∷ [])
-    ∷ restoringIn 1 1 (templateBy 1 0 8 1 32 0 0 0 4 0) 5 (0x0A ∷ 0x82 ∷ 0x00 ∷ []) 35 shows refused 8 (lent 35 ∷ [])
-    ∷ restoringIn 1 1 (templateBy 1 0 8 1 3 0 0 0 4 0) 5 (0x0A ∷ 0x82 ∷ 0x00 ∷ []) 35 shows refused 7 (lent 35 ∷ [])
-    ∷ restoringIn 1 1 (templateBy 1 0 8 1 3 0 0 0 4 0) 5 (0x0A ∷ 0x82 ∷ 0x00 ∷ 0x0C ∷ 0x50 ∷ []) 35
+    ∷ restoringIn 0 0 (templateBy 32 0 3 0 32 0 0 0 4 0) 5 [] 35 shows refused 3 (lent 35 ∷ [])
+    ∷ restoringIn 1 0 (templateBy 32 0 3 0 32 0 0 0 4 0) 5 [] 35 shows refused 1 (lent 35 ∷ [])
+    ∷ restoringIn 1 0 (templateBy 32 1 3 0 32 0 0 0 4 0) 5 [] 35 shows refused 2 (lent 35 ∷ [])
+    ∷ restoringIn 1 0 (templateBy 32 1 0 0 32 0 0 0 4 0) 5 [] 35 shows refused 4 (lent 35 ∷ [])
+    ∷ restoringIn 1 1 (templateBy 32 1 0 0 32 0 0 0 4 0) 5 [] 35 shows refused 7 (lent 35 ∷ [])
+    ∷ restoringIn 1 1 (templateBy 32 1 0 0 32 0 0 0 4 0) 5 (0x0A ∷ 0x82 ∷ []) 35 shows refused 6 (lent 35 ∷ [])
+    ∷ restoringIn 1 1 (templateBy 32 1 0 1 32 0 0 0 4 0) 5 (0x0A ∷ 0x82 ∷ []) 35 shows refused 5 (lent 35 ∷ [])
+    ∷ restoringIn 1 1 (templateBy 8 1 0 1 32 0 0 0 4 0) 5 (0x0A ∷ 0x82 ∷ []) 35 shows refused 7 (lent 35 ∷ [])
+    ∷ restoringIn 1 1 (templateBy 8 1 0 1 32 0 0 0 4 0) 5 (0x0A ∷ 0x82 ∷ 0x00 ∷ []) 35 shows refused 8 (lent 35 ∷ [])
+    ∷ restoringIn 1 1 (templateBy 8 1 0 1 3 0 0 0 4 0) 5 (0x0A ∷ 0x82 ∷ 0x00 ∷ []) 35 shows refused 7 (lent 35 ∷ [])
+    ∷ restoringIn 1 1 (templateBy 8 1 0 1 3 0 0 0 4 0) 5 (0x0A ∷ 0x82 ∷ 0x00 ∷ 0x0C ∷ 0x50 ∷ []) 35
     shows refused 9 (lent 35 ∷ [])
-    ∷ restoringIn 1 1 (templateBy 1 0 8 1 3 0 0 0 4 0) 4 (0x0A ∷ 0x82 ∷ 0x00 ∷ 0x0C ∷ 0x50 ∷ []) 35
+    ∷ restoringIn 1 1 (templateBy 8 1 0 1 3 0 0 0 4 0) 4 (0x0A ∷ 0x82 ∷ 0x00 ∷ 0x0C ∷ 0x50 ∷ []) 35
     shows refused 10 (lent 35 ∷ [])
-    ∷ restoringIn 1 1 (templateBy 1 0 8 1 3 0 0 0 4 0) 4 (0x0A ∷ 0x82 ∷ 0x00 ∷ 0x0C ∷ 0x50 ∷ []) 36
+    ∷ restoringIn 1 1 (templateBy 8 1 0 1 3 0 0 0 4 0) 4 (0x0A ∷ 0x82 ∷ 0x00 ∷ 0x0C ∷ 0x50 ∷ []) 36
     shows points (number 10 ∷ number 11 ∷ number 9 ∷ number 12 ∷ [])
     -- run-length
     ∷ unrollingIn 0 9 4 (0xCB ∷ []) 5 shows refused 5 (lent 5 ∷ [])
@@ -129,7 +129,7 @@ sentences =
     ∷ answered (packingOf (0 ∷ 1 ∷ 8 ∷ 11 ∷ []) ((0 ∷ 1 ∷ []) ∷ (8 ∷ 11 ∷ []) ∷ []) .payload) [] shows answered (0x08 ∷ 0x40 ∷ 0x4C ∷ []) []
     ∷ unpacking (template 0 4 2 1 1 2 0 2 0) 4 (0x08 ∷ 0x40 ∷ 0x4C ∷ []) shows points (number 0 ∷ number 1 ∷ number 8 ∷ number 11 ∷ [])
     -- "Splitting method 1, missing management 0, both missing values 0xffffffff."
-    ∷ answered (kindNumbers (packingOf (1 ∷ []) ((1 ∷ []) ∷ []))) [] shows answered (1 ∷ 0 ∷ 0xffffffff ∷ 0xffffffff ∷ []) []
+    ∷ answered (kindNumbers (packingOf (1 ∷ []) ((1 ∷ []) ∷ []))) [] shows answered (1 ∷ 0 ∷ 0xffffffff ∷ []) []
     -- first values have no sign; "Missing points do not advance this."
     ∷ restoring 2 4 (template 0 31 1 0 0 0 0 4 0) 4 (0x80 ∷ 0 ∷ 0 ∷ 0 ∷ 0 ∷ 0 ∷ 0 ∷ 1 ∷ 0x80 ∷ 0 ∷ 0 ∷ 0 ∷ 0 ∷ 0 ∷ 0 ∷ 0 ∷ [])
     shows points (number 2147483648 ∷ number 1 ∷ Normal (negsuc 2147483645) ∷ Normal (negsuc 4294967292) ∷ [])
@@ -178,7 +178,7 @@ sentences =
     ∷ []
 
 pub all-hold : AllHold sentences
-unfolding listed referenceOf total joined anyOf greatest least flatMap first bitIn numberOf spanOf readField writeField widthsAt lengthsAt valuesAt codesOf saidBy groupWidth groupLength pointsBefore bitsBefore wrongGroup decoded pointOf pointAt pointsUpTo placesOf locate52 unpack52 descriptorsOf raised expected restored beyond points53 locate53 left53 unpack53 codesLeft levelsOf repeatsFirst levelsIn runLength digitsIn bits widthOf endsBefore groupsFrom groupsOf recordsFrom groupNumbersOf widthCoding gcdIn gcd gcdFrom divisorUpTo incrementOf butLast lengthCoding templateOf lengthCodes valueString payloadOf packingOf pack
+unfolding listed referenceOf total joined anyOf greatest least flatMap first bitIn numberOf spanOf readField writeField widthsAt lengthsAt valuesAt codesOf saidBy groupWidth groupLength pointsBefore bitsBefore wrongGroup decoded pointOf pointAt pointsUpTo placesOf locate52 unpack52 descriptorsOf raised expected restored beyond points53 locate53 left53 unpack53 levelsOf repeatsFirst levelsIn runLength digitsIn bits widthOf endsBefore groupsFrom groupsOf recordsFrom groupNumbersOf widthCoding gcdIn gcd gcdFrom divisorUpTo incrementOf butLast lengthCoding templateOf lengthCodes valueString payloadOf packingOf packBy
 all-hold = refl
 
 -- 13: "above 4,194,304 numbers" is too long a list to compute. The rows that n zeros meet with lookahead 1, whatever n is:

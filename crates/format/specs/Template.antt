@@ -4,10 +4,27 @@ use mathlib.Core.Bool.{not}
 use mathlib.Core.List.{List, [], _∷_}
 use lib.Dec.{ltb, eqb}
 use Rattle.format.specs.Bits.{spanOf}
-use Rattle.format.specs.Refusals.{Row, _gives_}
+use Rattle.format.specs.Refusals.{Row, _gives_, limit}
 use Rattle.format.specs.declared.Refusal.the-variants.{Splitting, Management, Order, Descriptors, Width, GroupCount}
 use Rattle.format.specs.declared.Template.{Template}
 use Rattle.format.specs.declared.Differencing.{Differencing}
+
+-- "Template numbers are listed as: number width; groups; width reference, width bits; length reference, increment, last, bits."
+abbrev pub templateNumbers : Template → List ℕ
+templateNumbers t =
+    t .width ∷ t .groups ∷ t .widths .reference ∷ t .widths .bits
+    ∷ t .lengths .reference ∷ t .lengths .increment ∷ t .lengths .last ∷ t .lengths .bits ∷ []
+
+-- a template from all its numbers, in Section 5's order
+abbrev pub templateBy : ℕ → ℕ → ℕ → ℕ → ℕ → ℕ → ℕ → ℕ → ℕ → ℕ → Template
+templateBy width splitting management groups widthReference widthBits lengthReference increment last lengthBits = record {
+  width = width;
+  splitting = splitting;
+  management = management;
+  groups = groups;
+  widths = record { reference = widthReference; bits = widthBits };
+  lengths = record { reference = lengthReference; increment = increment; last = last; bits = lengthBits };
+}
 
 -- "The payload holds, each starting on an octet: descriptors (5.3 only), group references at the number width, width codes,
 -- length codes, values. Each group field has room for all groups.": where each begins, the references at octet `start`
@@ -50,7 +67,7 @@ descriptorRefusals d =
 abbrev pub fieldRefusals : Template → List Row
 fieldRefusals t =
     eqb (t .groups) 0 gives GroupCount
-    ∷ ltb 4194304 (t .groups) gives GroupCount
+    ∷ ltb limit (t .groups) gives GroupCount
     ∷ ltb 31 (t .width) gives Width
     ∷ ltb 32 (t .widths .bits) gives Width
     ∷ ltb 32 (t .lengths .bits) gives Width

@@ -1,6 +1,6 @@
 -- Document 01, "Unpacking under 5.2 and 5.3". Assumes nothing.
-use Prim.Native.Nat.{ℕ, suc, _+_, _-_, _*_, _/_, _^_}
-use mathlib.Core.Bool.{Bool, not, _||_, _&&_, cond}
+use Prim.Native.Nat.{ℕ, suc, _+_, _-_, _*_, _^_}
+use mathlib.Core.Bool.{Bool, _||_, _&&_, cond}
 use mathlib.Core.List.{List, [], _∷_, _++_, flatMap}
 use lib.Dec.{eqb, ltb}
 use lib.ListN.{length, getD}
@@ -9,9 +9,9 @@ use lib.IntN.{pos}
 use Rattle.format.specs.Lists.{listed, total, joined, anyOf, _over_}
 use Rattle.format.specs.Bits.{fieldOf, roundedUp}
 use Rattle.format.specs.Layout.{pointSize, pointOctets}
-use Rattle.format.specs.Refusals.{Row, _gives_, first, Left, left}
+use Rattle.format.specs.Refusals.{Row, _gives_, first, countRefusals, roomRefusals, Left, left}
 use Rattle.format.specs.Template.{widthsAt, lengthsAt, valuesAt, kindRefusals, fieldRefusals}
-use Rattle.format.specs.declared.Refusal.the-variants.{Short, GroupSize, Points, Room}
+use Rattle.format.specs.declared.Refusal.the-variants.{Short, GroupSize}
 use Rattle.format.specs.declared.Template.{Template}
 use Rattle.format.specs.declared.Places.{Places}
 use Rattle.format.specs.declared.Part.{Part}
@@ -68,12 +68,13 @@ module _ (t : Template) (codes : Codes) where
 
 -- ---- all that a payload says
 
--- "Values follow group after group with no alignment between them.": a list a group
+-- its group fields, and its values: "Values follow group after group with no alignment between them.", a list a group
 pub record Said : Type 0 where
   pub codes : Codes
   pub values : List (List ℕ)
 
--- Points are made of this alone: what is not said here, pads and the last length code, cannot matter to them.
+-- Points, and refusals but for a payload that is too short, are made of this alone: what is not said here, pads and the last
+-- length code, cannot matter to them.
 unfoldable pub saidBy : ℕ → Template → List ℕ → Said
 saidBy start t payload =
     let codes = codesOf start t payload in
@@ -87,13 +88,17 @@ saidBy start t payload =
 -- ---- points
 
 module _ (t : Template) where
-  -- "Let m be missing management. In a group of width w > 0, value 2^w − 1 is missing 1 if m > 0; else 2^w − 2 is missing 2 if
-  -- m = 2; else the number is value + reference."
+  -- "Let m be missing management. In a group of width w > 0, value 2^w − 1 is missing 1 if m > 0"
+  abbrev pub isMissing1 : ℕ → ℕ → Bool
+  isMissing1 w value = ltb 0 (t .management) && eqb value (2 ^ w - 1)
+
+  -- "else 2^w − 2 is missing 2 if m = 2"; at width 0 both codes are 0, and the first test comes first
+  abbrev pub isMissing2 : ℕ → ℕ → Bool
+  isMissing2 w value = eqb (t .management) 2 && eqb value (2 ^ w - 2)
+
+  -- "else the number is value + reference."
   unfoldable pub decoded : ℕ → ℕ → ℕ → DecodedValue
-  decoded w value number =
-      cond (ltb 0 (t .management) && eqb value (2 ^ w - 1)) Missing1
-      (cond (eqb (t .management) 2 && eqb value (2 ^ w - 2)) Missing2
-      (Normal (pos number)))
+  decoded w value number = cond (isMissing1 w value) Missing1 (cond (isMissing2 w value) Missing2 (Normal (pos number)))
 
   -- "In a group of width 0 the same tests apply to the reference at the number width, and the number is the reference."
   unfoldable pub pointOf : ℕ → ℕ → ℕ → DecodedValue
@@ -112,14 +117,15 @@ module _ (t : Template) where
 
 -- ---- parts
 
--- "The last four can be asked for as parts of the caller's payload; the values part ends with the last value's octet"
-unfoldable pub placesOf : ℕ → Template → Codes → Places
-placesOf start t codes = record {
+-- "The last four can be asked for as parts of the caller's payload; the values part ends with the last value's octet": where
+-- they are when the values take so many bits
+unfoldable pub placesOf : ℕ → Template → ℕ → Places
+placesOf start t bits = record {
   references = record { 0 = start };
   widths = record { 0 = widthsAt start t };
   lengths = record { 0 = lengthsAt start t };
   values = record { 0 = valuesAt start t };
-  end = record { 0 = valuesAt start t + roundedUp (bitsBefore t codes (t .groups)) };
+  end = record { 0 = valuesAt start t + roundedUp bits };
 }
 
 abbrev pub partOf : Part → List ℕ → Located → List ℕ
@@ -129,57 +135,52 @@ partOf Lengths payload (located.At p n) = slice (p .lengths .0) (p .values .0) p
 partOf Values payload (located.At p n) = slice (p .values .0) (p .end .0) payload
 partOf part payload (located.Refused r) = []
 
--- "7 for the group fields"
-abbrev pub fieldsShort : ℕ → Template → List ℕ → List Row
-fieldsShort start t payload =
-    ltb (length payload) (valuesAt start t) gives Short
+-- "7 for the group fields", in a payload of so many octets
+abbrev pub fieldsShort : ℕ → Template → ℕ → List Row
+fieldsShort start t octets =
+    ltb octets (valuesAt start t) gives Short
     ∷ []
 
 -- "8, 7 for the values"
-abbrev pub groupRefusals : ℕ → Template → List ℕ → List Row
-groupRefusals start t payload =
-    let codes = codesOf start t payload in
+abbrev pub groupRefusals : ℕ → Template → ℕ → Codes → List Row
+groupRefusals start t octets codes =
     anyOf (wrongGroup t codes) (listed (t .groups) (λ g. g)) gives GroupSize
-    ∷ ltb (length payload) (placesOf start t codes .end .0) gives Short
+    ∷ ltb octets (placesOf start t (bitsBefore t codes (t .groups)) .end .0) gives Short
     ∷ []
 
 -- from 6 on, as far as 7 for the values
-abbrev pub locatedRefusals : ℕ → Template → List ℕ → List Row
-locatedRefusals start t payload = fieldRefusals t ++ fieldsShort start t payload ++ groupRefusals start t payload
+abbrev pub locatedRefusals : ℕ → Template → ℕ → Codes → List Row
+locatedRefusals start t octets codes = fieldRefusals t ++ fieldsShort start t octets ++ groupRefusals start t octets codes
+
+-- and as far as 9
+abbrev pub countedRefusals : ℕ → Template → ℕ → ℕ → Codes → List Row
+countedRefusals start t declared octets codes =
+    locatedRefusals start t octets codes ++ countRefusals (pointsBefore t codes (t .groups)) declared
 
 -- where the parts are, unless one of the rows refuses
-abbrev pub locatedBy : List Row → ℕ → Template → List ℕ → Located
-locatedBy rows start t payload =
-    let codes = codesOf start t payload in
-    first located.Refused rows (located.At (placesOf start t codes) (pointsBefore t codes (t .groups)))
-
--- 9: "points do not equal the declared count, or that count is above 4,194,304"
-abbrev pub countRefusals : ℕ → ℕ → List Row
-countRefusals points declared =
-    not (eqb points declared) gives Points
-    ∷ ltb 4194304 declared gives Points
-    ∷ []
-
--- 10: "a lent buffer is too small"; spare octets short of a whole point are not used
-abbrev pub roomRefusals : ℕ → ℕ → List Row
-roomRefusals octets declared =
-    ltb (octets / pointSize) declared gives Room
-    ∷ []
+abbrev pub locatedBy : List Row → ℕ → Template → Codes → Located
+locatedBy rows start t codes =
+    first located.Refused rows
+    (located.At (placesOf start t (bitsBefore t codes (t .groups))) (pointsBefore t codes (t .groups)))
 
 -- ---- template 5.2
 
 -- "The refusals are unpacking's as far as 7 for the values."
 unfoldable pub locate52 : Template → List ℕ → Located
-locate52 t payload = locatedBy (kindRefusals t ++ locatedRefusals 0 t payload) 0 t payload
+locate52 t payload =
+    let codes = codesOf 0 t payload in
+    locatedBy (kindRefusals t ++ locatedRefusals 0 t (length payload) codes) 0 t codes
 
--- "Order for 5.2: 1, 2, 6, 5, 7 for the group fields, 8, 7 for the values, 9, 10."
-abbrev pub refusals52 : Template → ℕ → List ℕ → List ℕ → List Row
-refusals52 t declared payload lent =
-    kindRefusals t ++ locatedRefusals 0 t payload
-    ++ countRefusals (pointsBefore t (codesOf 0 t payload) (t .groups)) declared
-    ++ roomRefusals (length lent) declared
+-- "Order for 5.2: 1, 2, 6, 5, 7 for the group fields, 8, 7 for the values, 9"
+abbrev pub counted52 : Template → ℕ → ℕ → Codes → List Row
+counted52 t declared octets codes = kindRefusals t ++ countedRefusals 0 t declared octets codes
+
+-- the whole order, with "10." at its end
+abbrev pub refusals52 : Template → ℕ → ℕ → Codes → List ℕ → List Row
+refusals52 t declared octets codes lent = counted52 t declared octets codes ++ roomRefusals pointSize lent declared
 
 unfoldable pub unpack52 : Template → ℕ → List ℕ → List ℕ → Left Unpacked
 unpack52 t declared payload lent =
-    first (λ r. left (unpacked.Refused r) lent) (refusals52 t declared payload lent)
-    (left (unpacked.Points declared) (flatMap pointOctets (pointsUpTo t (saidBy 0 t payload) (t .groups)) over lent))
+    let said = saidBy 0 t payload in
+    first (λ r. left (unpacked.Refused r) lent) (refusals52 t declared (length payload) (said .codes) lent)
+    (left (unpacked.Points declared) (flatMap pointOctets (pointsUpTo t said (t .groups)) over lent))

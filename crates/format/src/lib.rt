@@ -17,6 +17,23 @@ pub enum Refusal {
     Numbers,
 }
 
+// "4,194,304": no more groups, points or numbers than that. `limit` of specs/Refusals.antt is the same.
+pub const LIMIT: u32 = 4194304;
+
+// "A number to pack and each of a group's four numbers take four octets, a level two"; "a point there is nine octets"; packing's
+// ten numbers "go to a lent 40 octets". The names of specs/Layout.antt and specs/Packing.antt are the same.
+pub const NUMBER_SIZE: usize = 4;
+
+pub const LEVEL_SIZE: usize = 2;
+
+pub const POINT_SIZE: usize = 9;
+
+pub const NUMBERS_PER_GROUP: usize = 4;
+
+pub const GROUP_SIZE: usize = NUMBERS_PER_GROUP * NUMBER_SIZE;
+
+pub const SUMMARY_SIZE: usize = 40;
+
 // "A place in bits and a place in octets are kept apart by kind." Only the crate `places` turns one into the other.
 pub struct BitPlace(pub usize);
 

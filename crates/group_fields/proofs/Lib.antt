@@ -1,4 +1,3 @@
-pub mod Groups
-pub mod Walking
+pub mod Walked
 pub mod Order
 pub mod Parts

@@ -1,14 +1,13 @@
 -- A part lies within its payload. Assumes nothing.
 use mathlib.Core.Path.{_≡_, refl, _∙_}
-use mathlib.Core.List.{List, _++_}
+use mathlib.Core.List.{List}
 use Prim.Native.Nat.{ℕ, _-_, _≤_}
 use native.Mathlib.Omega.{arith}
 use lib.ListN.{length, take, drop}
 use lib.Seq.{slice}
-use Rattle.format.specs.Refusals.{Row}
-use Rattle.format.specs.Template.{widthsAt, lengthsAt, valuesAt, descriptorsEnd, orderRefusals, kindRefusals, descriptorRefusals}
-use Rattle.format.specs.Unpacking.{codesOf, pointsBefore, placesOf, locatedBy, locatedRefusals, locate52, partOf}
-use Rattle.format.specs.Differences.{descriptorsShort, locate53}
+use Rattle.format.specs.Template.{widthsAt, lengthsAt, valuesAt}
+use Rattle.format.specs.Unpacking.{locate52, partOf}
+use Rattle.format.specs.Differences.{locate53}
 use Rattle.format.specs.declared.Template.{Template}
 use Rattle.format.specs.declared.Differencing.{Differencing}
 use Rattle.format.specs.declared.Places.{Places}
@@ -17,9 +16,9 @@ use Rattle.format.specs.declared.Part.the-variants.{References, Widths, Lengths
 use Rattle.format.specs.declared.Refusal.{Refusal}
 use Rattle.format.specs.declared.Located.{Located}
 use Rattle.format.specs.declared.Located.the-variants as located
-use Rattle.laws.specs.First.{passed, clear-later, tests}
+use Rattle.laws.specs.Accepting.{FoundIn, found-52, found-53}
 use Rattle.laws.specs.Lists.{take-of-drop}
-use Rattle.group_fields.specs.Parts.{boundsOf}
+use Rattle.group_fields.specs.Parts.{boundsOf, OrderedIn}
 use Rattle.group_fields.specs.declared.Bounds.{Bounds}
 
 pub bounds-none : (part : Part) {x : Located} {r : Refusal} → x ≡ located.Refused r → record { from = record { 0 = 0 }; to = record { 0 = 0 } } ≡ boundsOf part x
@@ -31,57 +30,48 @@ bounds-at asked e d = rw (e, d)
 
 -- ---- within the payload
 
--- the parts of some places follow each other, and end in the payload
-record Ordered (payload : List ℕ) (p : Places) : Type 0 where
-  references : p .references .0 ≤ p .widths .0
-  widths : p .widths .0 ≤ p .lengths .0
-  lengths : p .lengths .0 ≤ p .values .0
-  values : p .values .0 ≤ p .end .0
-  end : p .end .0 ≤ length payload
+module _ (t : Template) (payload : List ℕ) where
+  inside : (x : Located) → FoundIn t payload x → OrderedIn (length payload) x
+  unfolding widthsAt lengthsAt valuesAt
+  inside (located.At p n) f = record { references = omega arith; widths = omega arith; lengths = omega arith; values = f .values; end = f .end }
+  inside (located.Refused r) f = tt
 
-pub record Held (payload : List ℕ) (b : Bounds) : Type 0 where
-  pub low : b .from .0 ≤ b .to .0
-  pub high : b .to .0 ≤ length payload
+  pub inside-52 : {x : Located} → x ≡ locate52 t payload → OrderedIn (length payload) x
+  inside-52 {x} e = inside x (found-52 t payload e)
 
-module _ (rows : List Row) (start : ℕ) (t : Template) (payload : List ℕ) where
-  ordered : {p : Places} {n : ℕ} → located.At p n ≡ locatedBy (rows ++ locatedRefusals start t payload) start t payload → Ordered payload p
-  unfolding placesOf widthsAt lengthsAt valuesAt
-  ordered {p} {n} e =
-      let codes = codesOf start t payload in
-      let h = passed located.Refused (rows ++ locatedRefusals start t payload) (located.At (placesOf start t codes) (pointsBefore t codes (t .groups))) e (λ r z. (let d : _≡_ {A = ℕ} 0 1 = cc in omega arith)) in
-      let same : p ≡ placesOf start t codes = cc (h .1) in
-      let clear = clear-later rows (locatedRefusals start t payload) (h .0) in
-      rw same record { references = omega arith; widths = omega arith; lengths = omega arith; values = omega arith; end = omega (arith, tests) }
+  pub inside-53 : (d : Differencing) {x : Located} → x ≡ locate53 t d payload → OrderedIn (length payload) x
+  inside-53 d {x} e = inside x (found-53 t payload d e)
 
-  pub part-held : (part : Part) (x : Located) → x ≡ locatedBy (rows ++ locatedRefusals start t payload) start t payload → Held payload (boundsOf part x)
-  part-held References (located.At p n) e = let o = ordered e in record { low = omega arith; high = omega arith }
-  part-held Widths (located.At p n) e = let o = ordered e in record { low = omega arith; high = omega arith }
-  part-held Lengths (located.At p n) e = let o = ordered e in record { low = omega arith; high = omega arith }
-  part-held Values (located.At p n) e = let o = ordered e in record { low = omega arith; high = omega arith }
-  part-held part (located.Refused r) e = record { low = omega arith; high = omega arith }
+-- ---- what a part holds
 
--- ---- what it holds
+module _ (octets : ℕ) where
+  low : (part : Part) (x : Located) → OrderedIn octets x → boundsOf part x .from .0 ≤ boundsOf part x .to .0
+  low References (located.At p n) h = h .references
+  low Widths (located.At p n) h = h .widths
+  low Lengths (located.At p n) h = h .lengths
+  low Values (located.At p n) h = h .values
+  low part (located.Refused r) h = omega arith
 
-pub part-is : (part : Part) (payload : List ℕ) (x : Located) → slice (boundsOf part x .from .0) (boundsOf part x .to .0) payload ≡ partOf part payload x
+  high : (part : Part) (x : Located) → OrderedIn octets x → boundsOf part x .to .0 ≤ octets
+  high References (located.At p n) h = omega arith
+  high Widths (located.At p n) h = omega arith
+  high Lengths (located.At p n) h = omega arith
+  high Values (located.At p n) h = h .end
+  high part (located.Refused r) h = omega arith
+
+  module _ (part : Part) (x : Located) {b : Bounds} (e : b ≡ boundsOf part x) (h : OrderedIn octets x) where
+    pub part-low : b .from .0 ≤ b .to .0
+    part-low = rw e (low part x h)
+
+    pub part-high : b .to .0 ≤ octets
+    part-high = rw e (high part x h)
+
+part-is : (part : Part) (payload : List ℕ) (x : Located) → slice (boundsOf part x .from .0) (boundsOf part x .to .0) payload ≡ partOf part payload x
 part-is References payload (located.At p n) = refl
 part-is Widths payload (located.At p n) = refl
 part-is Lengths payload (located.At p n) = refl
 part-is Values payload (located.At p n) = refl
 part-is part payload (located.Refused r) = refl
 
--- ---- under 5.2 and 5.3
-
-module _ (t : Template) (payload : List ℕ) (part : Part) {x : Located} {b : Bounds} where
-  pub held-52 : x ≡ locate52 t payload → b ≡ boundsOf part x → Held payload b
-  unfolding locate52
-  held-52 e d = rw d (part-held (kindRefusals t) 0 t payload part x e)
-
-  pub held-53 : (d : Differencing) → x ≡ locate53 t d payload → b ≡ boundsOf part x → Held payload b
-  unfolding locate53
-  held-53 d e eb =
-      rw eb
-      (part-held (orderRefusals d ++ kindRefusals t ++ descriptorRefusals d ++ descriptorsShort d payload) (descriptorsEnd d) t payload part x e)
-
-pub part-taken : (part : Part) (payload : List ℕ) {x y : Located} {b : Bounds} → x ≡ y → b ≡ boundsOf part x
-    → take (b .to .0 - b .from .0) (drop (b .from .0) payload) ≡ partOf part payload y
-part-taken part payload {x} {y} {b} e d = take-of-drop (b .from .0) (b .to .0) payload ∙ rw (d, ← e) (part-is part payload x)
+pub part-cut : (part : Part) (payload : List ℕ) (x : Located) {b : Bounds} → b ≡ boundsOf part x → take (b .to .0 - b .from .0) (drop (b .from .0) payload) ≡ partOf part payload x
+part-cut part payload x {b} d = take-of-drop (b .from .0) (b .to .0) payload ∙ rw d (part-is part payload x)

@@ -1,21 +1,18 @@
 -- A list of groups that is filled from what grouping leaves holds document 01's groups. Assumes nothing.
 use mathlib.Core.Path.{_≡_, refl, sym, ap, ap₂, _∙_}
-use mathlib.Core.Bool.{Bool, true, false, false≢true}
 use mathlib.Core.List.{List, [], _∷_, _++_, flatMap}
 use Prim.Native.Nat.{ℕ, zero, suc, _+_, _*_, _≤_, _<_}
 use native.Mathlib.Nat.{add-zero}
 use native.Mathlib.Numerals.{add-one}
 use native.Mathlib.Omega.{arith}
 use borrow.Author.Tests.{ltb-false}
-use lib.Dec.{ltb}
 use lib.ListN.{length, getD, take, drop, length-take}
-use lib.Seq.{take-suc}
-use Rattle.format.specs.Lists.{listed, _over_}
-use Rattle.format.specs.Layout.{wholeOnes, groupNumbers}
-use Rattle.format.specs.Refusals.{_gives_, left, Left}
+use lib.Seq.{take-suc, take-all}
+use Rattle.format.specs.Lists.{listed, wholeOnes, _over_}
+use Rattle.format.specs.Layout.{numbersPerGroup, groupNumbers}
+use Rattle.format.specs.Refusals.{roomRefusals, left, Left}
 use Rattle.format.specs.Grouping.{groups01, recordsFrom, numberRefusals, groupNumbersOf}
 use Rattle.format.specs.declared.Refusal.{Refusal}
-use Rattle.format.specs.declared.Refusal.the-variants.{Room}
 use Rattle.format.specs.declared.Group.{Group}
 use Rattle.format.specs.declared.Grouped.{Grouped}
 use Rattle.format.specs.declared.Grouped.the-variants as grouped
@@ -32,9 +29,9 @@ module _ (groups : List Group) (rest : List ℕ) where
 
   among : (k : ℕ) → k < length groups → groupAmong numbers k ≡ getD groups k noGroup
   among k l =
-      let at : (i : ℕ) → i < 4 → getD numbers (k * 4 + i) 0 ≡ getD (groupNumbers (getD groups k noGroup)) i 0 =
-      λ i m. flat-at groupNumbers 4 (λ g. refl) groups rest noGroup k i l m in
-      let e₀ : getD numbers (k * 4) 0 ≡ getD groups k noGroup .start = rw add-zero at (at 0 (omega arith)) in
+      let at : (i : ℕ) → i < numbersPerGroup → getD numbers (k * numbersPerGroup + i) 0 ≡ getD (groupNumbers (getD groups k noGroup)) i 0 =
+      λ i m. flat-at groupNumbers numbersPerGroup (λ g. refl) groups rest noGroup k i l m in
+      let e₀ : getD numbers (k * numbersPerGroup) 0 ≡ getD groups k noGroup .start = rw add-zero at (at 0 (omega arith)) in
       λ i. record { start = e₀ i; length = at 1 (omega arith) i; least = at 2 (omega arith) i; width = at 3 (omega arith) i }
 
   first-among : (n : ℕ) → n ≤ length groups → listed n (groupAmong numbers) ≡ take n groups
@@ -50,37 +47,29 @@ take-its-length (suc m) [] = refl
 take-its-length (suc m) (g ∷ l) = ap (λ (r : List Group). g ∷ r) (take-its-length m l)
 
 -- as many of them as a list has room for
-over-filled : (groups : List Group) (lent : List ℕ) (list : List Group) → length groups ≤ wholeOnes 4 lent
+over-filled : (groups : List Group) (lent : List ℕ) (list : List Group) → length groups ≤ wholeOnes numbersPerGroup lent
     → filled (flatMap groupNumbers groups over lent) (length groups) list ≡ filling (length (take (length list) groups)) (take (length list) groups over list)
 over-filled groups lent list fits =
     let flat : List ℕ = flatMap groupNumbers groups in
     let some : List Group = take (length list) groups in
-    let whole = length-over flat lent (omega (arith, fits, length-flat groupNumbers 4 (λ g. refl) groups)) in
+    let whole = length-over flat lent (omega (arith, fits, length-flat groupNumbers numbersPerGroup (λ g. refl) groups)) in
     let count = length-take (length list) groups in
     let n : fittingOf (length groups) (length list) (length (flat over lent)) ≡ length some = omega (arith, fits, whole, count) in
     ap (λ (m : ℕ). filling m (listed m (groupAmong (flat over lent)) over list)) n
     ∙ ap (λ (gs : List Group). filling (length some) (gs over list)) (first-among groups (drop (length flat) lent) (length some) (omega (arith, count)) ∙ take-its-length (length list) groups)
 
--- ---- what grouping answers
+-- ---- from `groups_of`'s success
 
-abbrev granted : Grouped → Bool
-granted (grouped.Groups n) = true
-granted (grouped.Refused r) = false
+no-refusal : {n : ℕ} {r : Refusal} → grouped.Groups n ≡ grouped.Refused r → ⊥
+no-refusal e = let z : _≡_ {A = ℕ} 0 1 = cc in omega arith
 
-abbrev count-of : Grouped → ℕ
-count-of (grouped.Groups n) = n
-count-of (grouped.Refused r) = 0
-
-no-refusal : {n : ℕ} {slots lent : List ℕ} {r : Refusal} → left (grouped.Groups n) slots ≡ left (grouped.Refused r) lent → ⊥
-no-refusal e = false≢true (sym (ap (λ (x : Left Grouped). granted (x .answer)) e))
-
--- from `groups_of`'s success
 pub grouped-filled : (k : ℕ) (numbers lent slots : List ℕ) (count : ℕ) (list : List Group) → left (grouped.Groups count) slots ≡ groupNumbersOf k numbers lent
     → filled slots count list ≡ groupsListed k numbers list
 unfolding groupNumbersOf
 grouped-filled k numbers lent slots count list e =
     let groups : List Group = recordsFrom 0 (groups01 k numbers) in
-    let taken = passed (λ r. left (grouped.Refused r) lent) (numberRefusals k numbers) _ e (λ r. no-refusal) in
-    let roomy = passed (λ r. left (grouped.Refused r) (flatMap groupNumbers (take (wholeOnes 4 lent) groups) over lent)) (ltb (wholeOnes 4 lent) (length groups) gives Room ∷ []) _ (taken .1) (λ r. no-refusal) in
-    let n : count ≡ length groups = ap (λ (x : Left Grouped). count-of (x .answer)) (roomy .1) in
-    rw (n, ap (λ (x : Left Grouped). x .buffer) (roomy .1)) (over-filled groups lent list (ltb-false (wholeOnes 4 lent) (length groups) (roomy .0 .0)))
+    let taken = passed (λ r. left (grouped.Refused r) lent) (numberRefusals k numbers) _ e (λ r d. no-refusal (ap (λ (x : Left Grouped). x .answer) d)) .1 in
+    let roomy = passed grouped.Refused (roomRefusals numbersPerGroup lent (length groups)) _ (ap (λ (x : Left Grouped). x .answer) taken) (λ r. no-refusal) in
+    let fits : length groups ≤ wholeOnes numbersPerGroup lent = ltb-false (wholeOnes numbersPerGroup lent) (length groups) (roomy .0 .0) in
+    let n : count ≡ length groups = cc (roomy .1) in
+    rw (n, ap (λ (x : Left Grouped). x .buffer) taken, take-all (wholeOnes numbersPerGroup lent) groups fits) (over-filled groups lent list fits)

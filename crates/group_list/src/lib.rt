@@ -4,6 +4,7 @@ ghost use mathlib.Core.Path.{_≡_};
 ghost use Prim.Native.Nat.{_+_, _*_, _≤_, min};
 ghost use lib.ListN.{length, getD};
 ghost use Rattle.format.specs.Lists.{listed, _over_};
+ghost use Rattle.format.specs.Layout.{numbersPerGroup};
 ghost use Rattle.group_list.specs.Listing.{noGroup, groupAmong, fittingOf, filling, filled};
 use format::Group;
 
@@ -31,10 +32,10 @@ pub fn group_at(list: &[Group], k: usize) -> Group
 
 // Group k out of its four numbers.
 fn gather(numbers: &[u32], k: usize) -> Group
-    requires { ⌜ (k + 1) * 4 ≤ length (now numbers) ⌝ }
+    requires { ⌜ (k + 1) * numbersPerGroup ≤ length (now numbers) ⌝ }
     ensures { λ r. ⌜ r ≡ groupAmong (now (numbers .entry)) k ⌝ }
 {
-    let at = k * 4;
+    let at = k * format::NUMBERS_PER_GROUP;
     Group {
         start: numbers[at],
         length: numbers[at + 1],
@@ -53,12 +54,12 @@ fn lesser(a: usize, b: usize) -> usize
 fn fitting(count: usize, room: usize, have: usize) -> usize
     ensures { λ r. ⌜ r ≡ fittingOf count room have ⌝ }
 {
-    lesser(count, lesser(room, have / 4))
+    lesser(count, lesser(room, have / format::NUMBERS_PER_GROUP))
 }
 
 // The first `count` groups.
 fn fill<'g, 'n>(list: &'g mut [Group], numbers: &'n [u32], count: usize)
-    requires { ⌜ (count ≤ length (now list)) × (count * 4 ≤ length (now numbers)) ⌝ }
+    requires { ⌜ (count ≤ length (now list)) × (count * numbersPerGroup ≤ length (now numbers)) ⌝ }
     ensures { λ _. ⌜ now (list .exit) ≡ listed count (groupAmong (now (numbers .entry))) over now (list .entry) ⌝ }
 {
     let mut k = 0;

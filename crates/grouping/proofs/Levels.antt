@@ -67,10 +67,15 @@ module _ (l : List ℕ) (f t : ℕ) where
         let w = window-next l f t h m refl refl refl in
         omega (arith, ap (λ (x : Window). x .least) w, ap (λ (x : Window). x .greatest) w, least-first l f t h k, greatest-first l f t h k)
 
+  -- a turn of the loop that looks for their end
+  pub level-turn : f < t → Level (slice f t l) → {reach : ℕ} → t < reach → reach ≤ length l → {x y : ℕ} → x ≡ getD l t 0 → y ≡ getD l f 0 → x ≡ y → Level (slice f (t + 1) l)
+  level-turn h e m n ex ey d = level-next h (omega arith) e (omega arith) (cc)
+
   -- of one number
-  pub level-behind : f < length l → t ≤ length l → Level (slice f t l) → Level (slice f (max (f + 1) t) l)
+  pub level-behind : f < length l → t ≤ length l → Level (slice f t l) → {i : ℕ} → i ≡ max (f + 1) t → Level (slice f i l)
   unfolding greatest least
-  level-behind m k h =
-      max-cases (f + 1) t _
+  level-behind m k h ei =
+      rw ei
+      (max-cases (f + 1) t _
       (λ i e. rw e h)
-      (λ i e. rw (e, slice-snoc l f f 0 (omega arith) m, slice-none l f f (omega arith)) (omega arith))
+      (λ i e. rw (e, slice-snoc l f f 0 (omega arith) m, slice-none l f f (omega arith)) (omega arith)))

@@ -32,12 +32,12 @@ pub record Looking (list : List ℕ) (end reach keep extend : ℕ) (w : Window) 
 
 module _ (list : List ℕ) (end reach keep extend : ℕ) (far : reach ≤ length list) where
   -- equal numbers need not be looked at
-  pub looking-start : (level : ℕ) {w : Window} → end < level → level ≤ reach → Level (slice end level list) → keep < extend → w ≡ windowOf (getD list end 0 ∷ [])
+  pub looking-start : (level : ℕ) {w : Window} {x : ℕ} → end < level → level ≤ reach → Level (slice end level list) → keep < extend → x ≡ getD list end 0 → w ≡ windowOf (x ∷ [])
       → Looking list end reach keep extend w level
-  looking-start level h k e l ew = record {
+  looking-start level h k e l ex ew = record {
     from = h;
     within = k;
-    window = ew ∙ sym (level-window list end level h (omega arith) e);
+    window = rw ex at ew ∙ sym (level-window list end level h (omega arith) e);
     under = rw (level-width (slice end level list) e, mul-zero) (omega arith);
   }
 
@@ -48,9 +48,9 @@ module _ (list : List ℕ) (end reach keep extend : ℕ) (far : reach ≤ length
     pub next-ordered : w′ .least ≤ w′ .greatest
     next-ordered = window-ordered (slice end (i + 1) list) next-window
 
-    module _ {y z : ℕ} (ey : (y ≡ bits (w′ .greatest - w′ .least)) × (y ≤ 32)) (ez : (z ≡ (reach - end) * y) × (z ≤ (reach - end) * 32)) where
+    module _ {y z : ℕ} (ey : y ≡ bits (w′ .greatest - w′ .least)) (ez : z ≡ (reach - end) * y) where
       next-width : z ≡ (reach - end) * widthOf (slice end (i + 1) list)
-      next-width = ez .0 ∙ ap (λ (n : ℕ). (reach - end) * n) (window-width (slice end (i + 1) list) next-window (ey .0))
+      next-width = ez ∙ ap (λ (n : ℕ). (reach - end) * n) (window-width (slice end (i + 1) list) next-window ey)
 
       -- a longer piece has no smaller range
       pub looking-stops : extend ≤ keep + z → false ≡ ltb (keep + cost widthOf (slice end reach list)) extend
@@ -111,6 +111,10 @@ both : (a b : Bool) → (a && b) ≡ true → (a ≡ true) × (b ≡ true)
 both true b e = (refl, e)
 both false b e = absurd (false≢true e)
 
+module _ (list : List ℕ) (k end : ℕ) {count reach : ℕ} (ec : count ≡ length list) (er : reach ≡ end + min k (count - end)) (there : end < length list) where
+  pub known : {level : ℕ} → (end < level) × (level ≤ reach) × Level (slice end level list) × Stops list end level reach → Known list k end level
+  known h = record { flat = h .2; within = omega (arith, h .1); near = omega (arith, h .1) }
+
 module _ (list : List ℕ) (k end keep extend : ℕ) where
   pub not-dearer : extend ≤ keep → false ≡ ltb (keep + cost widthOf (take k (drop end list))) extend
   not-dearer h = sym (le-ltb (keep + cost widthOf (take k (drop end list))) extend (omega arith))
@@ -120,9 +124,6 @@ module _ (list : List ℕ) (k end keep extend : ℕ) where
     looked e =
         let d : slice end reach list ≡ take k (drop end list) = rw (er, ec) (sym (reach-takes list k end (omega arith))) in
         e ∙ ap (λ (l : List ℕ). ltb (keep + cost widthOf l) extend) d
-
-    pub known : {level : ℕ} → (end < level) × (level ≤ reach) × Level (slice end level list) × Stops list end level reach → Known list k end level
-    known h = record { there = there; flat = h .2; within = omega (arith, h .1); near = omega (arith, h .1) }
 
     -- where one bit a number is too dear, and equal numbers end before all are looked at, nothing else is to be seen
     pub dear : {level : ℕ} {b : Bool} → (end < level) × (level ≤ reach) × Level (slice end level list) × Stops list end level reach

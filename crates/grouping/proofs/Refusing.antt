@@ -1,17 +1,22 @@
 -- "packing: list empty or above 4,194,304 numbers, a number above 2,147,483,647, lookahead outside 1 to 65,535". Assumes nothing.
-use mathlib.Core.Path.{_≡_, refl, sym}
+use mathlib.Core.Path.{_≡_, refl, sym, _∙_}
 use mathlib.Core.Bool.{Bool, true, false, false≢true}
 use mathlib.Core.List.{List, [], _∷_}
 use Prim.Native.Nat.{ℕ, _≤_, _<_}
 use native.Mathlib.Omega.{arith}
-use lib.Dec.{ltb}
+use lib.Dec.{eqb, ltb}
 use lib.ListN.{length}
 use borrow.Author.Tests.{le-ltb, ltb-false}
 use Rattle.format.specs.Lists.{anyOf, greatest}
-use Rattle.format.specs.Grouping.{numberRefusals}
-use Rattle.laws.specs.First.{Gives, Clear, tests}
+use Rattle.format.specs.Layout.{groupNumbers, numbersPerGroup}
+use Rattle.format.specs.Refusals.{Row, limit, Left, left}
+use Rattle.format.specs.Grouping.{widthOf, groupsOf, recordsFrom, numberRefusals, groupsLent, groupNumbersOf}
+use Rattle.format.specs.declared.Grouped.{Grouped}
+use Rattle.format.specs.declared.Grouped.the-variants as grouped
+use Rattle.format.specs.declared.Refusal.the-variants.{Numbers}
+use Rattle.laws.specs.First.{Gives, Clear, decides, clears, clear-row, among, tests}
 use Rattle.laws.specs.Lists.{either-left}
-use Rattle.grouping.specs.Rule.{Limits}
+use Rattle.grouping.specs.Rule.{Limits, Tested, Unrefused}
 
 -- a number is above m where the greatest is
 pub none-above : (m : ℕ) (xs : List ℕ) → greatest xs ≤ m → anyOf (ltb m) xs ≡ false
@@ -28,43 +33,44 @@ greatest-within m (x ∷ xs) h =
     omega (arith, ltb-false m x e, greatest-within m xs later)
 
 module _ (k : ℕ) (numbers : List ℕ) where
+  abbrev rows : List Row
+  rows = numberRefusals k numbers
+
   -- all five rows give 13
-  gives : (Clear (numberRefusals k numbers) → ⊥) → Gives 13 (numberRefusals k numbers)
+  gives : (Clear rows → ⊥) → Gives 13 rows
   gives h = ((λ _. refl), λ a. ((λ _. refl), λ b. ((λ _. refl), λ c. ((λ _. refl), λ d. ((λ _. refl), λ e. absurd (h (a, (b, (c, (d, (e, tt)))))))))))
 
-  pub decided : (t : Bool) → (t ≡ true → Clear (numberRefusals k numbers) → ⊥) → (t ≡ false → Clear (numberRefusals k numbers))
-      → (t ≡ true → Gives 13 (numberRefusals k numbers)) × (t ≡ false → Clear (numberRefusals k numbers))
-  decided t h c = ((λ e. gives (h e)), c)
+  -- what is not refused is within the limits
+  pub greatest-small : Clear rows → greatest numbers ≤ 2147483647
+  greatest-small c = greatest-within 2147483647 numbers (clear-row rows c (search among depth 20))
 
-  pub refuses : (Clear (numberRefusals k numbers) → ⊥) → (true ≡ true → Gives 13 (numberRefusals k numbers)) × (true ≡ false → Clear (numberRefusals k numbers))
-  refuses h = decided true (λ e. h) (λ e. absurd (false≢true (sym e)))
+  pub unrefused : {t : Bool} → Tested k numbers t → t ≡ false → Unrefused k numbers
+  unrefused d e = record { clear = d .clear e }
+
+  pub limits : Unrefused k numbers → {size : ℕ} → size ≡ k → Limits numbers size
+  limits u es = let c = u .clear in record { few = omega (arith, tests); ahead = omega (arith, tests); near = omega (arith, tests) }
 
   -- what the code has tested
-  module _ {count top : ℕ} (ec : count ≡ length numbers) (et : top ≡ greatest numbers) where
-    pub is-empty : count ≡ 0 → Clear (numberRefusals k numbers) → ⊥
-    is-empty h c = omega (arith, tests, c .0)
-
-    pub too-many : 4194304 < count → Clear (numberRefusals k numbers) → ⊥
-    too-many h c = omega (arith, tests, c .1 .0)
-
-    pub too-large : 2147483647 < top → Clear (numberRefusals k numbers) → ⊥
-    too-large h c = omega (arith, greatest-within 2147483647 numbers (c .1 .1 .0))
-
-    pub no-lookahead : k ≡ 0 → Clear (numberRefusals k numbers) → ⊥
-    no-lookahead h c = omega (arith, tests, c .1 .1 .1 .0)
-
-    pub too-far : 65535 < k → Clear (numberRefusals k numbers) → ⊥
-    too-far h c = omega (arith, tests, c .1 .1 .1 .1 .0)
-
-    pub all-clear : (count ≡ 0 → ⊥) → count ≤ 4194304 → top ≤ 2147483647 → (k ≡ 0 → ⊥) → k ≤ 65535 → Clear (numberRefusals k numbers)
-    all-clear a b c d e =
-        (omega (arith, tests), (omega (arith, tests), (none-above 2147483647 numbers (omega arith), (omega (arith, tests), (omega (arith, tests), tt)))))
-
-  -- and what is not refused is within the limits
-  pub within : Clear (numberRefusals k numbers) → {size : ℕ} → size ≡ k → Limits numbers size 0
-  within c e = record {
-    few = omega (arith, tests, c .1 .0);
-    ahead = omega (arith, tests, c .1 .1 .1 .0);
-    near = omega (arith, tests, c .1 .1 .1 .1 .0);
-    added = omega arith;
+  pub refuses : (length numbers ≤ limit → greatest numbers ≤ 2147483647 → k ≤ 65535 → 0 < length numbers → ⊥) → Tested k numbers true
+  refuses h = record {
+    gives = λ e. gives (λ clear. h (omega (arith, tests)) (greatest-small clear) (omega (arith, tests)) (omega (arith, tests)));
+    clear = λ e. absurd (false≢true (sym e));
   }
+
+  -- where only the last test is left
+  pub decided : 0 < length numbers → length numbers ≤ limit → greatest numbers ≤ 2147483647 → k ≤ 65535 → Tested k numbers (eqb k 0)
+  decided some few small near = record {
+    gives = λ e. gives (λ clear. omega (arith, tests));
+    clear = λ e. (omega (arith, tests), (omega (arith, tests), (none-above 2147483647 numbers small, (e, (omega (arith, tests), tt)))));
+  }
+
+  -- the groups in lent slots, from what is tested
+  module _ (lent : List ℕ) {t : Bool} (d : Tested k numbers t) where
+    pub slots-refused : t ≡ true → left (grouped.Refused Numbers) lent ≡ groupNumbersOf k numbers lent
+    unfolding groupNumbersOf
+    slots-refused e = decides _ Numbers rows _ (d .gives e)
+
+    pub slots-filled : t ≡ false → {size : ℕ} → size ≡ k → {r : Left Grouped} → r ≡ groupsLent groupNumbers numbersPerGroup (recordsFrom 0 (groupsOf widthOf 0 size numbers)) lent
+        → r ≡ groupNumbersOf k numbers lent
+    unfolding groupNumbersOf
+    slots-filled e es er = (rw es at er) ∙ clears _ rows _ (d .clear e)

@@ -1,16 +1,15 @@
 // Grouping, after `Groups` of the Rust's encoder: the groups of a list by document 01's rule.
 ghost use mathlib.Core.Path.{_≡_};
-ghost use mathlib.Core.Bool.{true, false, _&&_};
+ghost use mathlib.Core.Bool.{_&&_};
 ghost use Prim.Native.Nat.{_+_, _*_, _-_, _<_, _≤_, _^_, min, max};
 ghost use lib.Dec.{ltb, leb};
 ghost use lib.ListN.{length, take, drop};
 ghost use lib.Seq.{slice, sets};
 ghost use Rattle.format.specs.Lists.{greatest};
-ghost use Rattle.format.specs.Layout.{numbersIn, groupNumbers};
-ghost use Rattle.format.specs.Refusals.{left};
-ghost use Rattle.format.specs.Grouping.{widthOf, cost, groups01, recordsFrom, numberRefusals, groupNumbersOf};
-ghost use Rattle.laws.specs.First.{Gives, Clear};
-ghost use Rattle.grouping.specs.Rule.{Level, Stops, Limits, Known, Next, groupsLent};
+ghost use Rattle.format.specs.Layout.{numbersIn, groupNumbers, numbersPerGroup};
+ghost use Rattle.format.specs.Refusals.{limit, left};
+ghost use Rattle.format.specs.Grouping.{widthOf, cost, groupsOf, recordsFrom, groupsLent, groupNumbersOf};
+ghost use Rattle.grouping.specs.Rule.{Level, Stops, Limits, Known, NextGroup, Tested};
 use format::Group;
 use format::Grouped;
 use format::Refusal;
@@ -37,7 +36,7 @@ fn behind(end: usize, level: usize) -> usize
 
 // How far the numbers from `end` on are equal, as far as the look-ahead reaches; those before `level` are known to be.
 fn level_end(numbers: &[u8], end: usize, level: usize, reach: usize) -> usize
-    requires { ⌜ (end < reach) × (level ≤ reach) × (reach ≤ length (numbersIn (now numbers))) × (reach ≤ 4194304) × Level (slice end level (numbersIn (now numbers))) ⌝ }
+    requires { ⌜ (end < reach) × (level ≤ reach) × (reach ≤ length (numbersIn (now numbers))) × (reach ≤ limit) × Level (slice end level (numbersIn (now numbers))) ⌝ }
     ensures { λ r. ⌜ (end < r) × (r ≤ reach) × Level (slice end r (numbersIn (now (numbers .entry)))) × Stops (numbersIn (now (numbers .entry))) end r reach ⌝ }
 {
     let first = numbers::number_at(numbers, end);
@@ -102,7 +101,7 @@ fn look_ahead(
     keep: usize,
     extend: usize,
 ) -> Look
-    requires { ⌜ Limits (numbersIn (now numbers)) lookahead 0 × Known (numbersIn (now numbers)) lookahead end level × (extend < 2 ^ 32) ⌝ }
+    requires { ⌜ Limits (numbersIn (now numbers)) lookahead × Known (numbersIn (now numbers)) lookahead end level × (end < length (numbersIn (now numbers))) × (extend < 2 ^ 32) ⌝ }
     ensures { λ r. ⌜ (r .ends ≡ ltb (keep + cost widthOf (take lookahead (drop end (numbersIn (now (numbers .entry)))))) extend) × Known (numbersIn (now (numbers .entry))) lookahead end (r .level) ⌝ }
 {
     if extend <= keep {
@@ -137,8 +136,8 @@ fn group_of(start: usize, end: usize, least: u32, width: usize) -> Group
 // "If len·w + that cost is less than (len + 1)·w', the group ends before it; otherwise it is taken in.": the group that starts
 // at a place. `added` is what ending a group costs besides; document 01's rule adds nothing.
 pub fn next_group(numbers: &[u8], lookahead: usize, added: usize, start: usize) -> Group
-    requires { ⌜ Limits (numbersIn (now numbers)) lookahead added × (start < length (numbersIn (now numbers))) ⌝ }
-    ensures { λ r. ⌜ Next lookahead added (numbersIn (now (numbers .entry))) start r ⌝ }
+    requires { ⌜ Limits (numbersIn (now numbers)) lookahead × (added ≤ 65535) × (start < length (numbersIn (now numbers))) ⌝ }
+    ensures { λ r. ⌜ NextGroup lookahead added (numbersIn (now (numbers .entry))) start r ⌝ }
 {
     let count = numbers::count_of(numbers);
     let mut window = numbers::window_of(numbers::number_at(numbers, start));
@@ -165,49 +164,50 @@ pub fn next_group(numbers: &[u8], lookahead: usize, added: usize, start: usize) 
 // "packing: list empty or above 4,194,304 numbers, a number above 2,147,483,647, lookahead outside 1 to 65,535"
 pub fn is_refused(numbers: &[u8], top: u32, lookahead: u32) -> bool
     requires { ⌜ top ≡ greatest (numbersIn (now numbers)) ⌝ }
-    ensures { λ r. ⌜ (r ≡ true → Gives 13 (numberRefusals lookahead (numbersIn (now (numbers .entry))))) × (r ≡ false → Clear (numberRefusals lookahead (numbersIn (now (numbers .entry))))) ⌝ }
+    ensures { λ r. ⌜ Tested lookahead (numbersIn (now (numbers .entry))) r ⌝ }
 {
     let count = numbers::count_of(numbers);
-    if count == 0 {
-        return true;
-    }
-    if 4194304 < count {
+    if places::size(format::LIMIT) < count {
         return true;
     }
     if 2147483647 < top {
         return true;
     }
-    if lookahead == 0 {
+    if 65535 < lookahead {
         return true;
     }
-    65535 < lookahead
+    if count == 0 {
+        return true;
+    }
+    lookahead == 0
 }
 
 // Group k, "four numbers each: start, length, least number, width".
 fn store_slot(slots: &mut [u32], k: usize, group: Group)
-    requires { ⌜ (k + 1) * 4 ≤ length (now slots) ⌝ }
-    ensures { λ _. ⌜ now (slots .exit) ≡ sets (now (slots .entry)) (k * 4) (groupNumbers group) ⌝ }
+    requires { ⌜ (k + 1) * numbersPerGroup ≤ length (now slots) ⌝ }
+    ensures { λ _. ⌜ now (slots .exit) ≡ sets (now (slots .entry)) (k * numbersPerGroup) (groupNumbers group) ⌝ }
 {
-    let at = k * 4;
+    let at = k * format::NUMBERS_PER_GROUP;
     slots[at] = group.start;
     slots[at + 1] = group.length;
     slots[at + 2] = group.least;
     slots[at + 3] = group.width;
 }
 
-fn fill_slots(numbers: &[u8], lookahead: usize, slots: &mut [u32]) -> Grouped
-    requires { ⌜ Limits (numbersIn (now numbers)) lookahead 0 ⌝ }
-    ensures { λ r. ⌜ left r (now (slots .exit)) ≡ groupsLent groupNumbers 4 (recordsFrom 0 (groups01 lookahead (numbersIn (now (numbers .entry))))) (now (slots .entry)) ⌝ }
+// The groups of a list in lent slots. "10 for the group list leaves the first groups in all lent slots"
+fn fill_slots(numbers: &[u8], lookahead: usize, added: usize, slots: &mut [u32]) -> Grouped
+    requires { ⌜ Limits (numbersIn (now numbers)) lookahead × (added ≤ 65535) ⌝ }
+    ensures { λ r. ⌜ left r (now (slots .exit)) ≡ groupsLent groupNumbers numbersPerGroup (recordsFrom 0 (groupsOf widthOf added lookahead (numbersIn (now (numbers .entry))))) (now (slots .entry)) ⌝ }
 {
     let count = numbers::count_of(numbers);
-    let room = slots.len() / 4;
+    let room = slots.len() / format::NUMBERS_PER_GROUP;
     let mut start = 0usize;
     let mut k = 0usize;
     while start < count {
         if room <= k {
             return Grouped::Refused(Refusal::Room);
         }
-        let group = next_group(numbers, lookahead, 0, start);
+        let group = next_group(numbers, lookahead, added, start);
         store_slot(slots, k, group);
         start += places::size(group.length);
         k += 1;
@@ -215,12 +215,12 @@ fn fill_slots(numbers: &[u8], lookahead: usize, slots: &mut [u32]) -> Grouped
     Grouped::Groups(k as u32)
 }
 
-// The groups of a list in lent slots, four numbers a group.
+// The groups of a list by document 01's rule, which adds no cost, in lent slots of four numbers each.
 pub fn groups_of(numbers: &[u8], lookahead: u32, slots: &mut [u32]) -> Grouped
     ensures { λ r. ⌜ left r (now (slots .exit)) ≡ groupNumbersOf lookahead (numbersIn (now (numbers .entry))) (now (slots .entry)) ⌝ }
 {
     if is_refused(numbers, numbers::greatest_of(numbers), lookahead) {
         return Grouped::Refused(Refusal::Numbers);
     }
-    fill_slots(numbers, places::size(lookahead), slots)
+    fill_slots(numbers, places::size(lookahead), 0, slots)
 }

@@ -11,7 +11,7 @@ use Rattle.format.specs.declared.OctetPlace.{OctetPlace}
 use Rattle.format.specs.declared.Fetched.the-variants as fetched
 use Rattle.format.specs.declared.Stored.{Stored}
 use Rattle.format.specs.declared.Stored.the-variants as stored
-use Rattle.laws.specs.First.{clears, passed, tests}
+use Rattle.laws.specs.First.{clears, clear-row, among, passed, tests}
 use Rattle.laws.specs.Lists.{length-listed, length-over}
 use Rattle.laws.specs.Written.{read-written}
 
@@ -30,7 +30,7 @@ written-is-read xs s w lent numbers {span} {octets} e room =
     let clear = p .0 in
     let n = spanOf s w (length xs) in
     let long : length octets ≡ length lent =
-    ap length same ∙ length-over (octetsOf (writtenBits [] lent s w xs) n) lent (omega (arith, tests, length-listed n (λ j. numberOf (bit (writtenBits [] lent s w xs)) (j * 8) 8), clear .1 .1 .1 .1 .0)) in
-    let back : fieldOf octets s w (length xs) ≡ xs = rw same (read-written [] lent s w xs (λ j. omega arith) (clear .1 .1 .1 .0)) in
+    ap length same ∙ length-over (octetsOf (writtenBits [] lent s w xs) n) lent (omega (arith, tests, length-listed n (λ j. numberOf (bit (writtenBits [] lent s w xs)) (j * 8) 8))) in
+    let back : fieldOf octets s w (length xs) ≡ xs = rw same (read-written [] lent s w xs (λ j. omega arith) (clear-row (writeRefusals xs s w lent) clear (search among depth 20))) in
     ap (λ (l : List ℕ). left fetched.Done (l over numbers)) (sym back)
-    ∙ clears (λ r. left (fetched.Refused r) numbers) (readRefusals octets s w (length xs) numbers) _ (omega (arith, tests, long, clear .1 .0, clear .1 .1 .0, clear .1 .1 .1 .1 .0))
+    ∙ clears (λ r. left (fetched.Refused r) numbers) (readRefusals octets s w (length xs) numbers) _ (omega (arith, tests, long))

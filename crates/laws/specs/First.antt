@@ -107,6 +107,18 @@ abbrev pub Clear : List Row → Type 0
 Clear [] = Unit
 Clear (t gives r ∷ rows) = (t ≡ false) × Clear rows
 
+-- a test that is among theirs: `search among` finds it wherever it stands
+pub data Among (t : Bool) : List Row → Type 0 where
+  here : {r : Refusal} {rows : List Row} → Among t (t gives r ∷ rows)
+  later : {s : Bool} {r : Refusal} {rows : List Row} → Among t rows → Among t (s gives r ∷ rows)
+
+pub ruleset among = (here, later)
+
+-- a row of a list that is clear has a false test
+pub clear-row : {t : Bool} (rows : List Row) → Clear rows → Among t rows → t ≡ false
+clear-row (t gives r ∷ rows) h here = h .0
+clear-row (s gives r ∷ rows) h (later a) = clear-row rows (h .1) a
+
 pub clear-front : (rows more : List Row) → Clear (rows ++ more) → Clear rows
 clear-front [] more h = tt
 clear-front (t gives r ∷ rows) more h = (h .0, clear-front rows more (h .1))
@@ -146,6 +158,13 @@ module _ {A : Type 0} (refused : Refusal → A) where
   first-joined [] more a = refl
   first-joined (true gives r ∷ rows) more a = refl
   first-joined (false gives r ∷ rows) more a = first-joined rows more a
+
+  -- an answer that is not a is the refusal of a row, whatever else is answered where none refuses
+  pub refusal-stays : (rows : List Row) (a b : A) {x : A} → x ≡ first refused rows a → (x ≡ a → ⊥) → x ≡ first refused rows b
+  unfolding first
+  refusal-stays [] a b e h = absurd (h e)
+  refusal-stays (true gives r ∷ rows) a b e h = e
+  refusal-stays (false gives r ∷ rows) a b e h = refusal-stays rows a b e h
 
   -- an answer that is no refusal was refused by no row
   pub passed : (rows : List Row) (a : A) {x : A} → x ≡ first refused rows a → ((r : Refusal) → x ≡ refused r → ⊥) → Clear rows × (x ≡ a)

@@ -1,5 +1,6 @@
 pub mod Only
 pub mod First
+pub mod Flags
 pub mod Lists
 pub mod Bits
 pub mod Strings
@@ -13,6 +14,8 @@ pub mod Fields
 pub mod Stores
 pub mod Signed
 pub mod Points
+pub mod Small
+pub mod Accepting
 pub mod Groups
 pub mod Parts
 pub mod Saying

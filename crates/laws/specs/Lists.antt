@@ -7,7 +7,7 @@ use native.Mathlib.Nat.{not-suc-le-zero, add-zero, add-suc, zero-add, suc-add, s
 use native.Mathlib.Numerals.{add-one}
 use native.Mathlib.Omega.{arith}
 use lib.ListN.{length, replicate, take, drop, set, getD, length-append, length-drop, drop-of-length-le}
-use lib.Seq.{slice, take-nil, drop-cons, set-at, append-snoc}
+use lib.Seq.{slice, take-nil, drop-cons, drop-at, set-at, append-snoc}
 use Rattle.format.specs.Lists.{listed, total, joined, anyOf, _over_}
 
 -- ---- listed
@@ -52,19 +52,17 @@ map-listed g zero f = refl
 map-listed {B = B} g (suc n) f = ap (λ (l : List B). g (f 0) ∷ l) (map-listed g n (λ i. f (suc i)))
 
 pub length-map : {A B : Type 0} (f : A → B) (xs : List A) → length (map f xs) ≡ length xs
-unfolding map
 length-map f [] = refl
 length-map f (x ∷ xs) = ap suc (length-map f xs)
 
 module _ {A B : Type 0} (f : A → B) where
   pub map-at : (xs : List A) (d : A) (e : B) (k : ℕ) → k < length xs → getD (map f xs) k e ≡ f (getD xs k d)
-  unfolding map
   map-at [] d e k l = absurd (omega arith)
   map-at (x ∷ xs) d e zero l = refl
   map-at (x ∷ xs) d e (suc k) l = map-at xs d e k (omega arith)
 
   pub listed-map : (xs : List A) (d : A) {n : ℕ} → length xs ≡ n → listed n (λ k. f (getD xs k d)) ≡ map f xs
-  unfolding map listed
+  unfolding listed
   listed-map [] d {n} e = rw (← e)
   listed-map (x ∷ xs) d {n} e = rw (← e) (ap (λ (l : List B). f x ∷ l) (listed-map xs d refl))
 
@@ -180,3 +178,9 @@ module _ {A : Type 0} where
   unfolding joined
   joined-first zero f = sym (append-nil (f 0))
   joined-first (suc n) f = ap (λ (l : List A). l ++ f (suc n)) (joined-first n f) ∙ append-assoc (f 0) (joined n (λ i. f (suc i))) (f (suc n))
+
+-- ---- over what is over
+
+-- as much over it leaves nothing of it
+pub over-over : {A : Type 0} (xs ys lent : List A) → length xs ≡ length ys → xs over (ys over lent) ≡ xs over lent
+over-over xs ys lent e = ap (λ l. xs ++ l) (rw e (drop-at ys (drop (length ys) lent) (length ys) refl))

@@ -1,11 +1,11 @@
 -- What a point depends on, and where its mark is 0. Assumes nothing.
 use mathlib.Core.Path.{_≡_, refl, sym, ap, ap₂, subst, _∙_}
-use mathlib.Core.Bool.{Bool, true, false, not, _||_, _&&_, cond}
+use mathlib.Core.Bool.{Bool, true, false, not, _||_, cond}
 use mathlib.Core.List.{List, [], _∷_, _++_, map, flatMap}
 use Prim.Native.Nat.{ℕ, zero, suc, _+_, _-_, _*_, _^_, _≤_, _<_}
 use native.Mathlib.Omega.{arith}
 use borrow.Author.Tests.{leb-true, leb-false}
-use lib.Dec.{eqb, ltb, leb}
+use lib.Dec.{eqb, leb}
 use lib.ListN.{length, getD, List·getD-append}
 use lib.Seq.{getD-append-add}
 use lib.IntN.{ℤ, pos}
@@ -13,12 +13,12 @@ use Rattle.format.specs.Lists.{listed, total, joined}
 use Rattle.format.specs.Bits.{bitAt, numberAt, fieldOf}
 use Rattle.format.specs.Layout.{pointSize, pointOctets, markOf, heldBy}
 use Rattle.format.specs.Template.{valuesAt}
-use Rattle.format.specs.Unpacking.{Codes, codesOf, referenceOf, groupWidth, groupLength, pointsBefore, bitsBefore, Said, saidBy, decoded, pointOf, pointAt, pointsUpTo}
+use Rattle.format.specs.Unpacking.{Codes, codesOf, referenceOf, groupWidth, groupLength, pointsBefore, bitsBefore, Said, saidBy, isMissing1, isMissing2, decoded, pointOf, pointAt, pointsUpTo}
 use Rattle.format.specs.Differences.{raised, restored}
 use Rattle.format.specs.declared.Template.{Template}
 use Rattle.format.specs.declared.DecodedValue.{DecodedValue}
 use Rattle.format.specs.declared.DecodedValue.the-variants.{Normal, Missing1, Missing2}
-use Rattle.laws.specs.Lists.{length-listed, getD-listed, length-joined, total-next, total-ext, total-upto}
+use Rattle.laws.specs.Lists.{length-map, length-listed, getD-listed, length-joined, total-next, total-ext, total-upto}
 use Rattle.laws.specs.Bits.{number-ext}
 use Rattle.laws.specs.Stores.{length-flat}
 
@@ -154,7 +154,7 @@ module _ (start : ℕ) (t : Template) where
 
 -- "value 2^w − 1 is missing 1 if m > 0; else 2^w − 2 is missing 2 if m = 2"
 abbrev pub missingCode : Template → ℕ → ℕ → Bool
-missingCode t w value = (ltb 0 (t .management) && eqb value (2 ^ w - 1)) || (eqb (t .management) 2 && eqb value (2 ^ w - 2))
+missingCode t w value = isMissing1 t w value || isMissing2 t w value
 
 mark-decoded : (a b : Bool) (number : ℤ) → eqb (markOf (cond a Missing1 (cond b Missing2 (Normal number)))) 0 ≡ not (a || b)
 mark-decoded true b number = refl
@@ -168,8 +168,8 @@ unfolding pointOf decoded
 mark-zero t w reference value = by-test (eqb w 0)
   where
     by-test : (b : Bool) → eqb (markOf (cond b (decoded t (t .width) reference reference) (decoded t w value (value + reference)))) 0 ≡ not (cond b (missingCode t (t .width) reference) (missingCode t w value))
-    by-test true = mark-decoded (ltb 0 (t .management) && eqb reference (2 ^ t .width - 1)) (eqb (t .management) 2 && eqb reference (2 ^ t .width - 2)) (pos reference)
-    by-test false = mark-decoded (ltb 0 (t .management) && eqb value (2 ^ w - 1)) (eqb (t .management) 2 && eqb value (2 ^ w - 2)) (pos (value + reference))
+    by-test true = mark-decoded (isMissing1 t (t .width) reference) (isMissing2 t (t .width) reference) (pos reference)
+    by-test false = mark-decoded (isMissing1 t w value) (isMissing2 t w value) (pos (value + reference))
 
 -- at every place of a payload
 pub mark-placed : (start : ℕ) (t : Template) (payload : List ℕ) (d : DecodedValue) (g k : ℕ) → g < t .groups → k < groupLength t (codesOf start t payload) g
@@ -199,3 +199,9 @@ restored-marks order firsts previous before minimum (Missing1 ∷ packed) = ap (
 restored-marks order firsts previous before minimum (Missing2 ∷ packed) = ap (λ (l : List ℕ). 2 ∷ l) (restored-marks order firsts previous before minimum packed)
 restored-marks order (value ∷ firsts) previous before minimum (Normal z ∷ packed) = ap (λ (l : List ℕ). 0 ∷ l) (restored-marks order firsts value previous minimum packed)
 restored-marks order [] previous before minimum (Normal z ∷ packed) = ap (λ (l : List ℕ). 0 ∷ l) (restored-marks order [] _ previous minimum packed)
+
+-- and as many points come of as many
+pub length-restored : (order : ℕ) (firsts : List ℤ) (previous before minimum : ℤ) (packed : List DecodedValue)
+    → length (restored order firsts previous before (map (raised minimum) packed)) ≡ length packed
+length-restored order firsts previous before minimum packed =
+    sym (length-map markOf (restored order firsts previous before (map (raised minimum) packed))) ∙ ap length (restored-marks order firsts previous before minimum packed) ∙ length-map markOf packed

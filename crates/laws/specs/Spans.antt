@@ -1,7 +1,7 @@
 -- The octets that a field spans. Assumes nothing.
 use mathlib.Core.Path.{_≡_, refl, sym, ap, _∙_}
 use Prim.Native.Nat.{ℕ, zero, suc, _+_, _*_, _/_, _%_, _<_}
-use native.Mathlib.Nat.{add-mul, div-add-mod', mul-right-comm}
+use native.Mathlib.Nat.{zero-mul, mul-zero, mul-pos, add-mul, div-add-mod', mul-right-comm}
 use native.Mathlib.Omega.{arith}
 use borrow.Author.Tests.{ne-eqb, eq-eqb}
 use Rattle.format.specs.Bits.{spanOf, roundedUp}
@@ -28,3 +28,13 @@ pub eights : (n w : ℕ) → n * w ≡ n / 8 * w * 8 + n % 8 * w
 eights n w =
     ap (λ (m : ℕ). m * w) (sym (div-add-mod' n 8)) ∙ add-mul (n / 8 * 8) (n % 8) w
     ∙ ap (λ (m : ℕ). m + n % 8 * w) (mul-right-comm (n / 8) 8 w)
+
+module _ (s w n : ℕ) where
+  pub span-of-none : n ≡ 0 → 0 ≡ spanOf s w n
+  span-of-none e = sym (span-none s w n (rw e (zero-mul w)))
+
+  pub span-of-width : w ≡ 0 → 0 ≡ spanOf s w n
+  span-of-width e = sym (span-none s w n (rw e (mul-zero n)))
+
+  pub span-of-eights : {whole rest : ℕ} → (n ≡ 0 → ⊥) → (w ≡ 0 → ⊥) → whole ≡ n / 8 * w → rest ≡ n % 8 * w → whole + (s + rest + 7) / 8 ≡ spanOf s w n
+  span-of-eights hn hw e d = omega (arith, eights n w, span-some s w n (mul-pos (omega arith) (omega arith)))

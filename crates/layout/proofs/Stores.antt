@@ -1,19 +1,22 @@
 -- Storing a number, octet by octet. Assumes nothing.
 use mathlib.Core.Path.{_≡_, refl, sym, ap, ap₂, _∙_}
-use mathlib.Core.List.{List, [], _∷_, _++_, append-assoc, append-nil, flatMap}
+use mathlib.Core.List.{List, [], _∷_, _++_, append-nil, flatMap}
 use Prim.Native.Nat.{ℕ, suc, _+_, _-_, _*_, _/_, _%_, _^_, _≤_, _<_}
 use native.Mathlib.Nat.{div-div-eq-div-mul}
 use native.Mathlib.Numerals.{add-one}
 use lib.Pow.{pow-add}
 use native.Mathlib.Omega.{arith}
-use lib.ListN.{length, set, length-set, length-append}
+use lib.ListN.{length, set, length-set}
 use lib.Seq.{sets, set-comm, length-sets}
 use lib.IntN.{ℤ}
+use mir.Syntax.{w64}
+use mir.Val.{SFits, toZ, ofZ}
+use mir.Facts.{toZ-ofZ}
 use Rattle.format.specs.Lists.{listed}
-use Rattle.format.specs.Layout.{bigEndian, inFours, groupNumbers, pointOctets, markOf, heldBy, twosComplement}
+use Rattle.format.specs.Layout.{bigEndian, numberSize, inFours, numbersPerGroup, groupSize, groupOctets, pointOctets, markOf, heldBy, twosComplement}
 use Rattle.format.specs.declared.DecodedValue.{DecodedValue}
 use Rattle.format.specs.declared.Group.{Group}
-use Rattle.laws.specs.Stores.{sets-append, sets-more, octet-power}
+use Rattle.laws.specs.Stores.{sets-append, sets-more, flat-append, length-flat, octet-power}
 use Rattle.laws.specs.Lists.{length-listed, listed-ext, listed-add}
 
 -- the first i of the n octets of x are stored
@@ -42,30 +45,29 @@ module _ {octets₀ octets : List ℕ} {at x n i : ℕ} (s : Storing octets₀ a
       let e : i ≡ n = omega (arith, s .some) in
       s .there ∙ ap (λ (m : ℕ). sets octets₀ at (listed m (λ k. x / 256 ^ (n - suc k) % 256))) e
 
--- a store right behind another
-behind : (octets : List ℕ) (at : ℕ) (xs ys : List ℕ) (n : ℕ) {a b : List ℕ} → a ≡ sets octets at xs → length xs ≡ n → b ≡ sets a (at + n) ys
-    → b ≡ sets octets at (xs ++ ys)
-behind octets at xs ys n ea en eb = eb ∙ rw (ea, ← en) (sets-append octets at xs ys)
+-- more numbers, right behind some others
+behind : (octets : List ℕ) (at : ℕ) (xs : List ℕ) (y k : ℕ) {a b : List ℕ} → a ≡ sets octets at (inFours xs) → at + length xs * numberSize ≡ k * numberSize → b ≡ sets a (k * numberSize) (bigEndian numberSize y)
+    → b ≡ sets octets at (inFours (xs ++ (y ∷ [])))
+unfolding flatMap
+behind octets at xs y k ea ek eb =
+    let four : (x : ℕ) → length (bigEndian numberSize x) ≡ numberSize = λ x. length-listed numberSize _ in
+    eb
+    ∙ rw (ea, ← ek, ← length-flat (bigEndian numberSize) numberSize four xs) (sets-append octets at (inFours xs) (bigEndian numberSize y))
+    ∙ ap (sets octets at) (ap (λ (l : List ℕ). inFours xs ++ l) (sym (append-nil (bigEndian numberSize y))) ∙ sym (flat-append (bigEndian numberSize) xs (y ∷ [])))
 
 -- a group's four numbers, one behind the other
-module _ (octets : List ℕ) (at : ℕ) (g : Group) where
-  abbrev four : ℕ → List ℕ
-  four x = bigEndian 4 x
-
-  two : length (four (g .start) ++ four (g .length)) ≡ 8
-  two = length-append (four (g .start)) (four (g .length)) ∙ omega (arith, length-listed 4 (λ i. g .start / 256 ^ (4 - suc i) % 256), length-listed 4 (λ i. g .length / 256 ^ (4 - suc i) % 256))
-
-  three : length (four (g .start) ++ four (g .length) ++ four (g .least)) ≡ 12
-  three = length-append (four (g .start) ++ four (g .length)) (four (g .least)) ∙ omega (arith, two, length-listed 4 (λ i. g .least / 256 ^ (4 - suc i) % 256))
-
-  pub group-stored : {a b c d : List ℕ} → a ≡ sets octets at (four (g .start)) → b ≡ sets a (at + 4) (four (g .length))
-      → c ≡ sets b (at + 8) (four (g .least)) → d ≡ sets c (at + 12) (four (g .width)) → d ≡ sets octets at (inFours (groupNumbers g))
-  unfolding flatMap
-  group-stored ea eb ec ed =
-      let b-is = behind octets at (four (g .start)) (four (g .length)) 4 ea (length-listed 4 (λ i. g .start / 256 ^ (4 - suc i) % 256)) eb in
-      let c-is = behind octets at (four (g .start) ++ four (g .length)) (four (g .least)) 8 b-is two ec in
-      let d-is = behind octets at (four (g .start) ++ four (g .length) ++ four (g .least)) (four (g .width)) 12 c-is three ed in
-      simp (append-assoc, append-nil) (simp append-assoc at d-is)
+pub group-stored : (octets : List ℕ) (k : ℕ) (g : Group) {a b c d : List ℕ} → a ≡ sets octets (k * numbersPerGroup * numberSize) (bigEndian numberSize (g .start))
+    → b ≡ sets a ((k * numbersPerGroup + 1) * numberSize) (bigEndian numberSize (g .length))
+    → c ≡ sets b ((k * numbersPerGroup + 2) * numberSize) (bigEndian numberSize (g .least)) → d ≡ sets c ((k * numbersPerGroup + 3) * numberSize) (bigEndian numberSize (g .width))
+    → d ≡ sets octets (k * groupSize) (groupOctets g)
+unfolding flatMap
+group-stored octets k g ea eb ec ed =
+    let at : ℕ = k * groupSize in
+    let same : k * numbersPerGroup * numberSize ≡ at = omega arith in
+    let first = ap (λ (n : ℕ). sets octets n (bigEndian numberSize (g .start))) same ∙ ap (sets octets at) (sym (append-nil (bigEndian numberSize (g .start)))) in
+    let second = behind octets at (g .start ∷ []) (g .length) (k * numbersPerGroup + 1) (ea ∙ first) (omega arith) eb in
+    let third = behind octets at (g .start ∷ g .length ∷ []) (g .least) (k * numbersPerGroup + 2) second (omega arith) ec in
+    behind octets at (g .start ∷ g .length ∷ g .least ∷ []) (g .width) (k * numbersPerGroup + 3) third (omega arith) ed
 
 -- a mark, stored before what stands behind it
 pub sets-before : (octets : List ℕ) (at mark : ℕ) (i : ℕ) (xs : List ℕ) → at < i → set (sets octets i xs) at mark ≡ sets (set octets at mark) i xs
@@ -111,5 +113,6 @@ pub point-long : (octets : List ℕ) (low high i mark : ℕ) (upper lower : List
 point-long octets low high i mark upper lower {a} {b} ea eb =
     length-set b i mark ∙ ap length eb ∙ length-sets a high upper ∙ ap length ea ∙ length-sets octets low lower
 
-pub signed-stored : (octets : List ℕ) (at : ℕ) (z : ℤ) {number : ℕ} {a : List ℕ} → number ≡ twosComplement z → a ≡ sets octets at (bigEndian 8 number) → a ≡ sets octets at (bigEndian 8 (twosComplement z))
-signed-stored octets at z en ea = rw (← en) ea
+pub signed-stored : (octets : List ℕ) (at : ℕ) {z : ℤ} {number : ℕ} {a : List ℕ} → SFits w64 z → number ≡ twosComplement (toZ w64 (ofZ w64 z)) → a ≡ sets octets at (bigEndian 8 number)
+    → a ≡ sets octets at (bigEndian 8 (twosComplement z))
+signed-stored octets at {z} f en ea = ea ∙ ap (λ (n : ℕ). sets octets at (bigEndian 8 n)) (en ∙ ap twosComplement (toZ-ofZ f))

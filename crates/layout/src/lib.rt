@@ -1,20 +1,22 @@
-// Levels, numbers, points and groups as they lie in lent octets, all big-endian, thing after thing from the first octet on.
+// Levels, numbers, points and groups as they lie in lent octets, all big-endian, thing after thing from the first octet on;
+// and the numbers of a template.
 ghost use mathlib.Core.Path.{_≡_};
-ghost use Prim.Native.Nat.{_+_, _*_, _<_, _≤_, _^_};
+ghost use Prim.Native.Nat.{_+_, _*_, _<_, _≤_};
 ghost use lib.ListN.{length, getD};
 ghost use lib.Seq.{sets};
 ghost use Rattle.format.specs.Bits.{numberAt};
-ghost use Rattle.format.specs.Layout.{bigEndian, inFours, levelSize, levelOctets, pointSize, pointOctets, markOf, heldBy, twosComplement, groupSize, groupNumbers, groupAt};
+ghost use Rattle.format.specs.Layout.{bigEndian, numberSize, levelSize, levelOctets, pointSize, pointOctets, markOf, heldBy, twosComplement, groupSize, groupOctets};
+ghost use Rattle.format.specs.Template.{templateBy};
+ghost use Rattle.laws.specs.Groups.{groupIn};
 use format::DecodedValue;
 use format::Group;
-use format::OctetPlace;
-
-// A level takes two octets, a point nine, a group's four numbers four each.
-pub const LEVEL_SIZE: usize = 2;
-
-pub const POINT_SIZE: usize = 9;
-
-pub const GROUP_SIZE: usize = 16;
+use format::LEVEL_SIZE;
+use format::Lengths;
+use format::NUMBER_SIZE;
+use format::NUMBERS_PER_GROUP;
+use format::POINT_SIZE;
+use format::Template;
+use format::Widths;
 
 // Stores x from a place on, in n octets.
 fn store(octets: &mut [u8], at: usize, x: u64, n: usize)
@@ -33,14 +35,7 @@ pub fn store_level(octets: &mut [u8], k: usize, level: u16)
     requires { ⌜ (k + 1) * levelSize ≤ length (now octets) ⌝ }
     ensures { λ _. ⌜ now (octets .exit) ≡ sets (now (octets .entry)) (k * levelSize) (levelOctets level) ⌝ }
 {
-    store(octets, k * LEVEL_SIZE, level as u64, 2);
-}
-
-pub fn level_in(octets: &[u8], k: usize) -> u16
-    requires { ⌜ (k + 1) * levelSize ≤ length (now octets) ⌝ }
-    ensures { λ r. ⌜ r ≡ numberAt (now (octets .entry)) (k * 16) 16 ⌝ }
-{
-    stream::read_in_octet(octets, OctetPlace(k * LEVEL_SIZE), 0, 16) as u16
+    store(octets, k * LEVEL_SIZE, level as u64, LEVEL_SIZE);
 }
 
 // Four octets as one number, the last of them first: read in this order they become one load of the machine.
@@ -51,7 +46,7 @@ fn four(d: u8, c: u8, b: u8, a: u8) -> u32
 }
 
 fn four_at(octets: &[u8], at: usize) -> u32
-    requires { ⌜ at + 4 ≤ length (now octets) ⌝ }
+    requires { ⌜ at + numberSize ≤ length (now octets) ⌝ }
     ensures { λ r. ⌜ r ≡ numberAt (now (octets .entry)) (at * 8) 32 ⌝ }
 {
     four(octets[at + 3], octets[at + 2], octets[at + 1], octets[at])
@@ -59,36 +54,36 @@ fn four_at(octets: &[u8], at: usize) -> u32
 
 // Number k of those that take four octets each.
 pub fn store_number(octets: &mut [u8], k: usize, number: u32)
-    requires { ⌜ (k + 1) * 4 ≤ length (now octets) ⌝ }
-    ensures { λ _. ⌜ now (octets .exit) ≡ sets (now (octets .entry)) (k * 4) (bigEndian 4 number) ⌝ }
+    requires { ⌜ (k + 1) * numberSize ≤ length (now octets) ⌝ }
+    ensures { λ _. ⌜ now (octets .exit) ≡ sets (now (octets .entry)) (k * numberSize) (bigEndian numberSize number) ⌝ }
 {
-    store(octets, k * 4, number as u64, 4);
+    store(octets, k * NUMBER_SIZE, number as u64, NUMBER_SIZE);
 }
 
 pub fn number_in(octets: &[u8], k: usize) -> u32
-    requires { ⌜ (k + 1) * 4 ≤ length (now octets) ⌝ }
+    requires { ⌜ (k + 1) * numberSize ≤ length (now octets) ⌝ }
     ensures { λ r. ⌜ r ≡ numberAt (now (octets .entry)) (k * 32) 32 ⌝ }
 {
-    four_at(octets, k * 4)
+    four_at(octets, k * NUMBER_SIZE)
 }
 
-// "each of a group's four numbers take four octets": group k, four numbers from octet 16·k on.
+// "each of a group's four numbers take four octets": group k, from number 4·k on.
 pub fn store_group(octets: &mut [u8], k: usize, group: Group)
     requires { ⌜ (k + 1) * groupSize ≤ length (now octets) ⌝ }
-    ensures { λ _. ⌜ now (octets .exit) ≡ sets (now (octets .entry)) (k * groupSize) (inFours (groupNumbers group)) ⌝ }
+    ensures { λ _. ⌜ now (octets .exit) ≡ sets (now (octets .entry)) (k * groupSize) (groupOctets group) ⌝ }
 {
-    let at = k * GROUP_SIZE;
-    store(octets, at, group.start as u64, 4);
-    store(octets, at + 4, group.length as u64, 4);
-    store(octets, at + 8, group.least as u64, 4);
-    store(octets, at + 12, group.width as u64, 4);
+    let at = k * NUMBERS_PER_GROUP;
+    store_number(octets, at, group.start);
+    store_number(octets, at + 1, group.length);
+    store_number(octets, at + 2, group.least);
+    store_number(octets, at + 3, group.width);
 }
 
 pub fn group_in(octets: &[u8], k: usize) -> Group
     requires { ⌜ (k + 1) * groupSize ≤ length (now octets) ⌝ }
-    ensures { λ r. ⌜ r ≡ groupAt (now (octets .entry)) k ⌝ }
+    ensures { λ r. ⌜ r ≡ groupIn (now (octets .entry)) k ⌝ }
 {
-    let at = k * 4;
+    let at = k * NUMBERS_PER_GROUP;
     Group {
         start: number_in(octets, at),
         length: number_in(octets, at + 1),
@@ -162,4 +157,39 @@ pub fn packed_in(octets: &[u8], k: usize) -> u32
     ensures { λ r. ⌜ r ≡ numberAt (now (octets .entry)) ((k * pointSize + 5) * 8) 32 ⌝ }
 {
     four_at(octets, k * POINT_SIZE + 5)
+}
+
+// A template from all its numbers, in Section 5's order.
+pub fn template_by(
+    width: u8,
+    splitting: u8,
+    management: u8,
+    groups: u32,
+    widthref: u8,
+    widthbits: u8,
+    lengthref: u32,
+    increment: u8,
+    last: u32,
+    lengthbits: u8,
+) -> Template
+    ensures { λ r. ⌜ r ≡ templateBy width splitting management groups widthref widthbits lengthref increment last lengthbits ⌝ }
+{
+    let widths = Widths {
+        reference: widthref,
+        bits: widthbits,
+    };
+    let lengths = Lengths {
+        reference: lengthref,
+        increment,
+        last,
+        bits: lengthbits,
+    };
+    Template {
+        width,
+        splitting,
+        management,
+        groups,
+        widths,
+        lengths,
+    }
 }

@@ -7,14 +7,14 @@ ghost use Rattle.format.specs.Lists.{greatest};
 ghost use Rattle.format.specs.Layout.{numbersIn};
 ghost use Rattle.format.specs.Grouping.{bits};
 ghost use Rattle.numbers.specs.Windows.{windowOf, widenedBy};
-ghost use Rattle.numbers.specs.Records.{numberOf};
+ghost use Rattle.numbers.specs.Records.{codedNumber};
 use format::Group;
 
 // How many numbers a list has. "spare octets short of a whole one are not used"
 pub fn count_of(numbers: &[u8]) -> usize
     ensures { λ r. ⌜ r ≡ length (numbersIn (now (numbers .entry))) ⌝ }
 {
-    numbers.len() / 4
+    numbers.len() / format::NUMBER_SIZE
 }
 
 // Number k of the list to pack. Every pass of packing gets its numbers here.
@@ -90,8 +90,8 @@ pub enum Field {
     Lengths,
 }
 
-pub fn number_of(group: Group, field: Field) -> u32
-    ensures { λ r. ⌜ r ≡ numberOf field group ⌝ }
+pub fn coded_number(group: Group, field: Field) -> u32
+    ensures { λ r. ⌜ r ≡ codedNumber field group ⌝ }
 {
     match field {
         Field::References => group.least,

@@ -17,7 +17,7 @@ use Rattle.format.specs.declared.DecodedValue.the-variants.{Normal, Missing1, M
 use Rattle.laws.specs.First.{tests}
 use Rattle.laws.specs.Lists.{length-map, map-at, any-not}
 use Rattle.laws.specs.Points.{size-points}
-use Rattle.diff.specs.Restoring.{Small}
+use Rattle.laws.specs.Small.{Small}
 use Rattle.cleatmow.specs.Calls.{called}
 use Rattle.one_packing.specs.Claims.{Sent, pointsIn, heldNumber, numberPoint, Demanded, Lookahead, Acceptable, packedBy, Repackable, Canonical, Idempotent}
 use Rattle.one_packing.proofs.RoundTrip.{round-trip}

@@ -1,17 +1,17 @@
 -- What the calls ensure gives demand 3 of what their callers hold. Assumes nothing.
 use mathlib.Core.Path.{_≡_, refl, sym, ap, ap₂, subst, _∙_}
-use mathlib.Core.List.{List, [], _∷_, _++_, map, flatMap}
+use mathlib.Core.List.{List, _++_, map, flatMap}
 use Prim.Native.Nat.{ℕ, suc, _+_, _-_, _*_, _/_, _%_, _^_, _≤_, _<_}
 use native.Mathlib.Nat.{add-zero, zero-add}
 use native.Mathlib.Omega.{arith}
 use lib.ListN.{length, getD, take, drop}
 use lib.Seq.{ext-getD, take-at}
 use lib.IntN.{pos, negsuc}
-use Rattle.format.specs.Lists.{_over_}
+use Rattle.format.specs.Lists.{wholeOnes, _over_}
 use Rattle.format.specs.Bits.{numberAt}
-use Rattle.format.specs.Layout.{inFours, wholeOnes, numbersIn, pointSize, pointOctets, markOf}
+use Rattle.format.specs.Layout.{numberSize, inFours, numbersIn, pointSize, pointOctets, markOf}
 use Rattle.format.specs.Refusals.{Left, left, unpackedNumber, packedNumber}
-use Rattle.format.specs.Packing.{templateOf, packingOf, templateNumbers, pack}
+use Rattle.format.specs.Packing.{templateOf, packingOf, summaryNumbers, pack}
 use Rattle.format.specs.declared.DecodedValue.{DecodedValue}
 use Rattle.format.specs.declared.DecodedValue.the-variants.{Normal, Missing1, Missing2}
 use Rattle.format.specs.declared.Template.{Template}
@@ -19,7 +19,7 @@ use Rattle.laws.specs.Lists.{length-listed, getD-listed, length-map, map-at}
 use Rattle.laws.specs.Stores.{flat-at, number-back}
 use Rattle.laws.specs.Groups.{number-read-back}
 use Rattle.laws.specs.Points.{size-point, size-points}
-use Rattle.diff.specs.Restoring.{Small}
+use Rattle.laws.specs.Small.{Small}
 use Rattle.cleatmow.specs.Calls.{called, PackCall, calledPack}
 use Rattle.one_packing.specs.Claims.{Sent, pointsIn, heldNumber, numbersOf, numberPoint, Accepted, Demanded, Lookahead, Acceptable, EnoughRoom, Given, packedBy, again}
 use Rattle.one_packing.specs.Calls.{UnpackMade, PackMade, fourAt, eightAt, Turned, sentBy, Repacked, Resent, RoundTripOfCalls, OfCalls}
@@ -61,7 +61,7 @@ module _ {sent : Sent} {declared : ℕ} {lent points : List ℕ} (a : Answered s
   number-held : (j : ℕ) → j < declared → eightAt points j ≡ getD (numbersOf sent) j 0
   number-held j l =
       let m : j < length (pointsIn sent) = omega (arith, a .count) in
-      rw (a .there) (number-there (pointsIn sent) _ j m (a .small j l)) ∙ sym (map-at heldNumber (pointsIn sent) Missing1 0 j m)
+      rw (a .there) (number-there (pointsIn sent) _ j m (a .small j m)) ∙ sym (map-at heldNumber (pointsIn sent) Missing1 0 j m)
 
   module _ {numbers : List ℕ} (t : Turned declared points numbers) where
     none-missing : (j : ℕ) → j < length (pointsIn sent) → markOf (getD (pointsIn sent) j Missing1) ≡ 0
@@ -71,7 +71,7 @@ module _ {sent : Sent} {declared : ℕ} {lent points : List ℕ} (a : Answered s
 
     numbers-are : numbersIn numbers ≡ numbersOf sent
     numbers-are =
-        let n = wholeOnes 4 numbers in
+        let n = wholeOnes numberSize numbers in
         let long : length (numbersIn numbers) ≡ declared = length-listed n (λ k. numberAt numbers (0 + k * 32) 32) ∙ t .all in
         ext-getD 0 _ _ (long ∙ sym (length-map heldNumber (pointsIn sent) ∙ a .count))
         (λ j l.
@@ -104,7 +104,7 @@ module _ (k : ℕ) (numbers : List ℕ) (able : Acceptable k numbers) where
       let limits = round-trip 0 k numbers able .limits in
       let answer : back .number ≡ 0 = ap (λ (c : PackCall). c .number) e ∙ ap (λ (g : Given). packedNumber (g .answer)) given in
       let octets : back .payload ≡ sent .payload over payload = ap (λ (c : PackCall). c .payload) e ∙ ap (λ (g : Given). g .payload) given in
-      let ten = templateNumbers (sent .template) ++ (sent .template .groups ∷ length (sent .payload) ∷ []) in
+      let ten = summaryNumbers (sent .template) (sent .template .groups) (length (sent .payload)) in
       let forty : back .summary ≡ inFours ten over summary = ap (λ (c : PackCall). c .summary) e ∙ ap (λ (g : Given). g .summary) given in
       let n : (j : ℕ) → j < 10 → getD ten j 0 < 2 ^ 32 → fourAt (back .summary) j ≡ getD ten j 0 = λ j l h. rw forty (number-read-back _ ten j l h) in
       let length-is : fourAt (back .summary) 9 ≡ length (sent .payload) = n 9 (omega arith) (omega (arith, limits .payload)) in
@@ -143,7 +143,7 @@ module _ (k : ℕ) (p : PackMade) (v : UnpackMade) (able : Acceptable k (numbers
   packed = numbersIn (p .numbers)
 
   long : length packed ≡ v .declared
-  long = length-listed (wholeOnes 4 (p .numbers)) (λ j. numberAt (p .numbers) (0 + j * 32) 32) ∙ sym (r .declared)
+  long = length-listed (wholeOnes numberSize (p .numbers)) (λ j. numberAt (p .numbers) (0 + j * 32) 32) ∙ sym (r .declared)
 
   resent : given v ≡ packedBy 0 k packed
   resent = ap₂ (λ (t : Template) (o : List ℕ). record { template = t; payload = o }) (r .template) (r .payload) ∙ gave
@@ -161,7 +161,7 @@ module _ (k : ℕ) (p : PackMade) (v : UnpackMade) (able : Acceptable k (numbers
   turned-resent = record {
     all = sym (r .declared);
     marks = λ j l. rw (a .there) (mark-there (pointsIn (given v)) _ j (omega (arith, count-resent)) ∙ ap markOf (is j l));
-    same = λ j l. rw (a .there) (number-there (pointsIn (given v)) _ j (omega (arith, count-resent)) (a .small j l) ∙ ap heldNumber (is j l));
+    same = λ j l. rw (a .there) (number-there (pointsIn (given v)) _ j (omega (arith, count-resent)) (a .small j (omega (arith, count-resent))) ∙ ap heldNumber (is j l));
   }
     where
       a : Answered (given v) (v .declared) (v .lent) (v .points)
@@ -170,7 +170,7 @@ module _ (k : ℕ) (p : PackMade) (v : UnpackMade) (able : Acceptable k (numbers
       is : (j : ℕ) → j < v .declared → getD (pointsIn (given v)) j Missing1 ≡ numberPoint (fourAt (p .numbers) j)
       is j l =
           ap (λ (points : List DecodedValue). getD points j Missing1) points-resent ∙ map-at numberPoint packed 0 Missing1 j (omega (arith, long))
-          ∙ ap numberPoint (getD-listed (wholeOnes 4 (p .numbers)) (λ i. numberAt (p .numbers) (0 + i * 32) 32) 0 j (omega (arith, r .declared)) ∙ rw (zero-add (j * 32)))
+          ∙ ap numberPoint (getD-listed (wholeOnes numberSize (p .numbers)) (λ i. numberAt (p .numbers) (0 + i * 32) 32) 0 j (omega (arith, r .declared)) ∙ rw (zero-add (j * 32)))
 
 pub round-trip-of-calls : RoundTripOfCalls
 round-trip-of-calls p v zero-packed r =

@@ -12,7 +12,7 @@ use Rattle.format.specs.Seen.{template}
 use Rattle.format.specs.Template.{widthsAt, lengthsAt, valuesAt}
 use Rattle.format.specs.Unpacking.{codesOf, referenceOf, saidBy, groupWidth, groupLength, pointsBefore, bitsBefore, wrongGroup, decoded, pointOf, pointAt, pointsUpTo, placesOf, unpack52}
 use Rattle.format.specs.Grouping.{digitsIn, bits, widthOf, endsBefore, groupsFrom, groupsOf}
-use Rattle.format.specs.Packing.{templateOf, packingOf, pack}
+use Rattle.format.specs.Packing.{templateOf, packingOf, packBy, pack}
 use Rattle.format.specs.declared.DecodedValue.{DecodedValue}
 use Rattle.format.specs.declared.DecodedValue.the-variants.{Missing1}
 use Rattle.format.specs.declared.Packed.the-variants as packed
@@ -51,10 +51,10 @@ RefusedAgain a = Accepted a × ((groups payload summary : List ℕ) → pack 1 (
 
 -- no number above 2,147,483,647: document 01's packing of 2,147,483,648
 pub number-above : RefusedAgain (sent (template 0 31 1 1 0 0 0 1 0) (0xFF ∷ 0xFF ∷ 0xFF ∷ 0xFE ∷ 0x80 ∷ []))
-unfolding listed total joined anyOf first bitIn numberOf spanOf widthsAt lengthsAt valuesAt codesOf referenceOf saidBy groupWidth groupLength pointsBefore bitsBefore wrongGroup decoded pointOf pointAt pointsUpTo placesOf unpack52 pack
+unfolding listed total joined anyOf first bitIn numberOf spanOf widthsAt lengthsAt valuesAt codesOf referenceOf saidBy groupWidth groupLength pointsBefore bitsBefore wrongGroup decoded pointOf pointAt pointsUpTo placesOf unpack52 packBy
 number-above = (answered (sent (template 0 31 1 1 0 0 0 1 0) (0xFF ∷ 0xFF ∷ 0xFF ∷ 0xFE ∷ 0x80 ∷ [])) 1 (listed 9 (λ i. 0)) _ refl .accepted, λ groups payload summary. refl)
 
 -- at least one point: a packing of none
 pub no-point : RefusedAgain (sent (template 0 0 1 0 0 0 0 0 0) [])
-unfolding listed total joined anyOf first bitIn numberOf spanOf widthsAt lengthsAt valuesAt codesOf referenceOf saidBy groupWidth groupLength pointsBefore bitsBefore wrongGroup decoded pointOf pointAt pointsUpTo placesOf unpack52 pack
+unfolding listed total joined anyOf first bitIn numberOf spanOf widthsAt lengthsAt valuesAt codesOf referenceOf saidBy groupWidth groupLength pointsBefore bitsBefore wrongGroup decoded pointOf pointAt pointsUpTo placesOf unpack52 packBy
 no-point = (answered (sent (template 0 0 1 0 0 0 0 0 0) []) 0 [] _ refl .accepted, λ groups payload summary. refl)

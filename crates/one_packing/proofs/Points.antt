@@ -1,7 +1,7 @@
 -- What a packing of some groups says: its points are the groups' numbers. Assumes nothing.
 use mathlib.Core.Path.{_≡_, refl, ap, _∙_}
 use mathlib.Core.Bool.{Bool, true, false, cond}
-use mathlib.Core.List.{List, [], _++_, map}
+use mathlib.Core.List.{List, [], append-nil, map}
 use Prim.Native.Nat.{ℕ, _+_, _-_, _^_, _<_}
 use native.Mathlib.Omega.{arith}
 use borrow.Author.Tests.{eqb-true}
@@ -19,7 +19,7 @@ use Rattle.laws.specs.Digits.{bits-within}
 use Rattle.laws.specs.Extremes.{least-lower, least-greatest, fits-width}
 use Rattle.laws.specs.Groups.{allOf, joined-map, greatest-group}
 use Rattle.laws.specs.Saying.{Fitting, codes-back, said-back, at-end}
-use Rattle.laws.specs.Codings.{codesFor, Coded, fitting}
+use Rattle.laws.specs.Codings.{codesFor, fitting, template-coded}
 use Rattle.one_packing.specs.Claims.{numberPoint}
 
 -- under management 0 no value is a missing code
@@ -44,17 +44,13 @@ point-back t e group k l = by-test (eqb (widthOf group) 0) refl
 abbrev pub valuesOf : List ℕ → List ℕ
 valuesOf group = map (λ number. number - least group) group
 
--- the payload of a packing, behind a front and before whatever follows
-module _ (numbers : List ℕ) (groups : List (List ℕ)) (e : allOf groups ≡ numbers) (some : 0 < length groups) (front rest : List ℕ) where
+-- the payload of a packing
+module _ (numbers : List ℕ) (groups : List (List ℕ)) (e : allOf groups ≡ numbers) (some : 0 < length groups) where
   abbrev t : Template
   t = templateOf numbers groups
 
   abbrev codes : Codes
   codes = codesFor widthOf (map least groups) t groups
-
-  pub coded : Coded widthOf t groups
-  unfolding templateOf
-  coded = record { some = some; count = refl; widths = refl; lengths = refl }
 
   reference-fits : (k : ℕ) → k < length (map least groups) → getD (map least groups) k 0 < 2 ^ t .width
   unfolding templateOf
@@ -65,32 +61,29 @@ module _ (numbers : List ℕ) (groups : List (List ℕ)) (e : allOf groups ≡ n
 
   own : Fitting widthOf valuesOf [] t codes groups
   own =
-      fitting widthOf (map least groups) t groups coded valuesOf (λ group. length-map (λ number. number - least group) group) (length-map least groups) reference-fits
+      fitting widthOf (map least groups) t groups (template-coded numbers groups some) valuesOf (λ group. length-map (λ number. number - least group) group) (length-map least groups) reference-fits
       (λ g l k m.
       let group = getD groups g [] in
       let n : k < length group = omega (arith, length-map (λ number. number - least group) group) in
       rw (map-at (λ number. number - least group) group 0 0 k n) (fits-width group k n))
 
-  abbrev pub sentPayload : List ℕ
-  sentPayload = front ++ payloadOf t groups ++ rest
-
-  pub packed-codes : codesOf (length front) t sentPayload ≡ codes
+  pub packed-codes : codesOf 0 t (payloadOf t groups) ≡ codes
   unfolding payloadOf lengthCodes valueString
-  packed-codes = codes-back widthOf valuesOf [] t codes 0 groups own front rest
+  packed-codes = rw append-nil at (codes-back widthOf valuesOf [] t codes 0 groups own [] [])
 
-  -- with nothing after it, the payload ends with the last value's octet
-  pub packed-end : length (front ++ payloadOf t groups) ≡ valuesAt (length front) t + roundedUp (bitsBefore t codes (t .groups))
+  -- the payload ends with the last value's octet
+  pub packed-end : length (payloadOf t groups) ≡ valuesAt 0 t + roundedUp (bitsBefore t codes (t .groups))
   unfolding payloadOf lengthCodes valueString
-  packed-end = at-end widthOf valuesOf [] t codes 0 groups own front rest
+  packed-end = at-end widthOf valuesOf [] t codes 0 groups own [] []
 
   -- ---- its points
 
   abbrev said : Said
   said = record { codes = codes; values = map valuesOf groups }
 
-  packed-said : saidBy (length front) t sentPayload ≡ said
+  packed-said : saidBy 0 t (payloadOf t groups) ≡ said
   unfolding payloadOf lengthCodes valueString
-  packed-said = said-back widthOf valuesOf [] t codes 0 groups own front rest
+  packed-said = rw append-nil at (said-back widthOf valuesOf [] t codes 0 groups own [] [])
 
   own-point : (g k : ℕ) → g < length groups → k < length (getD groups g []) → pointAt t said g k ≡ numberPoint (getD (getD groups g []) k 0)
   unfolding pointAt referenceOf templateOf
@@ -107,7 +100,7 @@ module _ (numbers : List ℕ) (groups : List (List ℕ)) (e : allOf groups ≡ n
       ∙ listed-ext (length group) (pointAt t said g) (λ k. numberPoint (getD group k 0)) (λ k m. own-point g k l m)
       ∙ listed-map numberPoint group 0 refl
 
-  pub packed-points : pointsUpTo t (saidBy (length front) t sentPayload) (t .groups) ≡ map numberPoint numbers
+  pub packed-points : pointsUpTo t (saidBy 0 t (payloadOf t groups)) (t .groups) ≡ map numberPoint numbers
   unfolding pointsUpTo templateOf
   packed-points =
       rw packed-said (joined-ext (length groups) _ _ own-points ∙ joined-map numberPoint groups refl ∙ ap (map numberPoint) e)

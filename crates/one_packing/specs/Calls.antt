@@ -5,9 +5,11 @@ use mathlib.Core.Logic.{_↔_}
 use mathlib.Core.List.{List}
 use Prim.Native.Nat.{ℕ, _+_, _*_, _≤_, _<_}
 use lib.ListN.{length, getD, take}
+use Rattle.format.specs.Lists.{wholeOnes}
 use Rattle.format.specs.Bits.{numberAt}
-use Rattle.format.specs.Layout.{wholeOnes, numbersIn, pointSize}
+use Rattle.format.specs.Layout.{numberSize, numbersIn, pointSize}
 use Rattle.format.specs.Refusals.{left, unpackedNumber}
+use Rattle.format.specs.Template.{templateBy}
 use Rattle.format.specs.Unpacking.{unpack52}
 use Rattle.format.specs.Packing.{pack}
 use Rattle.format.specs.declared.Template.{Template}
@@ -47,7 +49,7 @@ eightAt points j = numberAt points ((j * pointSize + 1) * 8) 64
 -- "a point there is nine octets, the mark and then the number"; "A number to pack [..] take[s] four octets": each point has
 -- mark 0, and the numbers to pack are the points' numbers
 pub record Turned (count : ℕ) (points numbers : List ℕ) : Type 0 where
-  pub all : wholeOnes 4 numbers ≡ count
+  pub all : wholeOnes numberSize numbers ≡ count
   pub marks : (j : ℕ) → j < count → getD points (j * pointSize) 0 ≡ 0
   pub same : (j : ℕ) → j < count → eightAt points j ≡ fourAt numbers j
 
@@ -57,14 +59,7 @@ abbrev pub sentBy : PackCall → Sent
 sentBy back =
     let n : ℕ → ℕ = fourAt (back .summary) in
     record {
-      template = record {
-        width = n 0;
-        splitting = 1;
-        management = 0;
-        groups = n 1;
-        widths = record { reference = n 2; bits = n 3 };
-        lengths = record { reference = n 4; increment = n 5; last = n 6; bits = n 7 };
-      };
+      template = templateBy (n 0) 1 0 (n 1) (n 2) (n 3) (n 4) (n 5) (n 6) (n 7);
       payload = take (n 9) (back .payload);
     }
 
@@ -84,7 +79,7 @@ pub record Right (u : UnpackMade) : Type 0 where
 pub record Resent (p : PackMade) (v : UnpackMade) : Type 0 where
   pub template : v .template ≡ sentBy (p .back) .template
   pub payload : v .payload ≡ sentBy (p .back) .payload
-  pub declared : v .declared ≡ wholeOnes 4 (p .numbers)
+  pub declared : v .declared ≡ wholeOnes numberSize (p .numbers)
   pub room : v .declared * pointSize ≤ length (v .lent)
 
 -- ---- the claims

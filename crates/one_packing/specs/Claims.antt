@@ -1,16 +1,16 @@
 -- Demand 3, "one map, one packing", to be read beside it. The proofs stand in proofs/. Assumes nothing.
 use mathlib.Core.Path.{_≡_}
 use mathlib.Core.Logic.{_↔_}
-use mathlib.Core.List.{List, [], _∷_, _++_, map, flatMap}
+use mathlib.Core.List.{List, map, flatMap}
 use Prim.Native.Nat.{ℕ, _*_, _≤_, _<_}
 use lib.ListN.{length, getD}
 use lib.IntN.{pos}
 use Rattle.format.specs.Lists.{_over_}
 use Rattle.format.specs.Layout.{inFours, pointSize, pointOctets, markOf, heldBy, twosComplement, groupSize}
-use Rattle.format.specs.Refusals.{left, packedNumber}
+use Rattle.format.specs.Refusals.{limit, left, packedNumber}
 use Rattle.format.specs.Unpacking.{codesOf, groupWidth, groupLength, saidBy, pointsUpTo, unpack52}
 use Rattle.format.specs.Grouping.{widthOf, groupsOf, numberRefusals}
-use Rattle.format.specs.Packing.{packingOf, templateNumbers, summarySize, Parcelled, pack}
+use Rattle.format.specs.Packing.{packingOf, summaryNumbers, summarySize, LeftPacked, pack}
 use Rattle.format.specs.declared.DecodedValue.{DecodedValue}
 use Rattle.format.specs.declared.DecodedValue.the-variants.{Normal, Missing1}
 use Rattle.format.specs.declared.Packed.{Packed}
@@ -87,7 +87,7 @@ pub record Given : Type 0 where
   pub payload : List ℕ
   pub summary : List ℕ
 
-abbrev pub givenBy : Parcelled → Given
+abbrev pub givenBy : LeftPacked → Given
 givenBy p = record { answer = p .answer; payload = p .payload; summary = p .summary }
 
 -- Packing accepts the numbers where there is room, and gives this packing.
@@ -98,7 +98,7 @@ Packs k numbers sent =
     ≡ record {
       answer = packed.Payload (sent .template) (record { 0 = length (sent .payload) });
       payload = sent .payload over payload;
-      summary = inFours (templateNumbers (sent .template) ++ (sent .template .groups ∷ length (sent .payload) ∷ [])) over summary;
+      summary = inFours (summaryNumbers (sent .template) (sent .template .groups) (length (sent .payload))) over summary;
     }
 
 -- ---- the claims
@@ -107,7 +107,7 @@ Packs k numbers sent =
 pub record WithinLimits (sent : Sent) : Type 0 where
   pub width : sent .template .width ≤ 31
   pub some-groups : 1 ≤ sent .template .groups
-  pub few-groups : sent .template .groups ≤ 4194304
+  pub few-groups : sent .template .groups ≤ limit
   pub width-reference : sent .template .widths .reference ≤ 255
   pub width-bits : sent .template .widths .bits ≤ 32
   pub length-reference : sent .template .lengths .reference ≤ 4294967295

@@ -1,10 +1,15 @@
-// Places in bits and places in octets, turned into each other by the rounding rules, and powers of two.
+// Places in bits and places in octets, turned into each other by the rounding rules, the parts of a payload, and powers of two.
 ghost use mathlib.Core.Path.{_≡_};
 ghost use Prim.Native.Nat.{_*_, _<_, _≤_, _^_, _/_, _%_};
 ghost use Rattle.format.specs.Bits.{roundedUp, spanOf};
+ghost use Rattle.format.specs.Template.{valuesAt};
+ghost use Rattle.format.specs.Unpacking.{placesOf};
 ghost use Rattle.format.specs.Grouping.{bits};
+ghost use Rattle.laws.specs.Accepting.{Passing};
 use format::BitPlace;
 use format::OctetPlace;
+use format::Places;
+use format::Template;
 
 // The octets that reach as far as a place in bits.
 pub fn octets_to(place: BitPlace) -> OctetPlace
@@ -56,6 +61,32 @@ pub fn span(start: BitPlace, width: usize, count: usize) -> OctetPlace
         return OctetPlace(0);
     }
     OctetPlace(times(count / 8, width) + (start.0 + times(count % 8, width) + 7) / 8)
+}
+
+// The octets that a field of all groups spans.
+fn field(groups: u32, width: u8) -> usize
+    requires { ⌜ width ≤ 32 ⌝ }
+    ensures { λ r. ⌜ (r ≡ spanOf 0 width groups) × (r < 2 ^ 40) ⌝ }
+{
+    span(BitPlace(0), small(width), size(groups)).0
+}
+
+// "each starting on an octet": where the parts of a payload are, the references at octet `start`, when the values take so many
+// bits.
+pub fn parts_of(template: Template, start: usize, bits: usize) -> Places
+    requires { ⌜ Passing template × (start ≤ 12) × (bits < 2 ^ 63) ⌝ }
+    ensures { λ r. ⌜ (r ≡ placesOf start template bits) × (valuesAt start template < 2 ^ 42) ⌝ }
+{
+    let widths = start + field(template.groups, template.width);
+    let lengths = widths + field(template.groups, template.widths.bits);
+    let values = lengths + field(template.groups, template.lengths.bits);
+    Places {
+        references: OctetPlace(start),
+        widths: OctetPlace(widths),
+        lengths: OctetPlace(lengths),
+        values: OctetPlace(values),
+        end: OctetPlace(values + octets_to(BitPlace(bits)).0),
+    }
 }
 
 // 2 to the k.

@@ -38,7 +38,8 @@ takenAt octets c =
     (numberIn (stepped octets c))
 
 -- the cursor behind the next k numbers, or behind the last; one that is refused stays
+abbrev pub behindNumbers : Cursor → ℕ → Cursor
+behindNumbers c k = record { place = record { 0 = c .place .0 + min k (c .left) * c .width }; width = c .width; left = c .left - k }
+
 unfoldable pub movedOn : Cursor → ℕ → Cursor
-movedOn c k =
-    cond (outside c) c
-    (record { place = record { 0 = c .place .0 + min k (c .left) * c .width }; width = c .width; left = c .left - k })
+movedOn c k = cond (outside c) c (behindNumbers c k)

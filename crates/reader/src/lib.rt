@@ -2,9 +2,10 @@
 // function over such a struct: each of those is proved by hand, and leaves its work to one that takes the octets and the
 // cursor as they are.
 ghost use mathlib.Core.Path.{_≡_};
-ghost use Prim.Native.Nat.{_<_, _≤_, _^_, min};
+ghost use Prim.Native.Nat.{min};
 ghost use Rattle.format.specs.Bits.{spanOf};
-ghost use Rattle.reader.specs.Reading.{readerOn, outside, takenAt, movedOn};
+ghost use Rattle.stream.specs.Cursor.{Inside};
+ghost use Rattle.reader.specs.Reading.{readerOn, outside, takenAt, behindNumbers, movedOn};
 use format::BitPlace;
 use format::OctetPlace;
 use format::Refusal;
@@ -39,7 +40,7 @@ fn lesser(x: u32, y: u32) -> u32
 
 // The octets that reach as far as the last number.
 fn reach(cursor: Cursor) -> OctetPlace
-    requires { ⌜ (cursor .place .0 < 2 ^ 63) × (cursor .width ≤ 32) ⌝ }
+    requires { ⌜ Inside cursor ⌝ }
     ensures { λ r. ⌜ r .0 ≡ spanOf (cursor .place .0) (cursor .width) (cursor .left) ⌝ }
 {
     let bits = places::times(places::size(cursor.left), cursor.width);
@@ -67,12 +68,10 @@ fn taken_at(octets: &[u8], cursor: Cursor) -> Taken
 }
 
 // The cursor behind the next `count` numbers, or behind the last.
-fn moved_on(cursor: Cursor, count: u32) -> Cursor
-    ensures { λ r. ⌜ r ≡ movedOn cursor count ⌝ }
+fn moved_within(cursor: Cursor, count: u32) -> Cursor
+    requires { ⌜ Inside cursor ⌝ }
+    ensures { λ r. ⌜ r ≡ behindNumbers cursor count ⌝ }
 {
-    if is_outside(cursor) {
-        return cursor;
-    }
     let place = cursor.place;
     let numbers = lesser(count, cursor.left);
     let bits = places::times(places::size(numbers), cursor.width);
@@ -81,6 +80,16 @@ fn moved_on(cursor: Cursor, count: u32) -> Cursor
         width: cursor.width,
         left: cursor.left - numbers,
     }
+}
+
+// One that is refused stays.
+fn moved_on(cursor: Cursor, count: u32) -> Cursor
+    ensures { λ r. ⌜ r ≡ movedOn cursor count ⌝ }
+{
+    if is_outside(cursor) {
+        return cursor;
+    }
+    moved_within(cursor, count)
 }
 
 pub fn new<'a>(octets: &'a [u8], cursor: Cursor) -> Reader<'a>

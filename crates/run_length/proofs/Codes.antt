@@ -3,7 +3,7 @@ use mathlib.Core.Path.{_≡_, refl, sym, ap, ap₂, _∙_}
 use mathlib.Core.Bool.{Bool, true, false}
 use mathlib.Core.List.{List, [], _∷_}
 use Prim.Native.Nat.{ℕ, suc, _+_, _-_, _*_, _/_, _≤_, _<_}
-use native.Mathlib.Nat.{div-eq-of-lt, div-eq-sub-div, zero-mul, suc-mul, add-zero}
+use native.Mathlib.Nat.{div-eq-of-lt, div-eq-sub-div, zero-mul, suc-mul, add-zero, sub-zero}
 use native.Mathlib.Numerals.{add-one}
 use native.Mathlib.Omega.{arith}
 use lib.Dec.{ltb}
@@ -11,8 +11,14 @@ use borrow.Author.Tests.{lt-ltb, le-ltb, ltb-true, ltb-false}
 use lib.ListN.{length}
 use Rattle.format.specs.Lists.{listed}
 use Rattle.format.specs.Bits.{roundedUp, numberAt}
-use Rattle.format.specs.RunLength.{codesLeft, codesFrom, codesIn, repeatsFirst}
+use Rattle.format.specs.RunLength.{codesIn, repeatsFirst}
 use Rattle.laws.specs.Lists.{listed-ext}
+use Rattle.run_length.specs.Runs.{codesLeft, codesFrom}
+
+-- all of them are those from the first bit on
+pub codes-all : (b : ℕ) (payload : List ℕ) → codesIn b payload ≡ codesFrom b payload 0
+unfolding codesLeft
+codes-all b payload = rw (sub-zero (length payload * 8))
 
 module _ (b : ℕ) (payload : List ℕ) (p : ℕ) (some : 0 < b) where
   -- "fewer than b bits at the end are ignored"
@@ -33,6 +39,10 @@ module _ (b : ℕ) (payload : List ℕ) (p : ℕ) (some : 0 < b) where
       (listed-ext n (λ i. numberAt payload (p + suc i * b) b) (λ i. numberAt payload (p + b + i * b) b)
       (λ i l. ap (λ (q : ℕ). numberAt payload q b) (omega (arith, suc-mul i b)))))
 
+-- five octets hold a code
+pub ends-not : (octets octet bit bits : ℕ) → octet + 5 ≤ octets → bit ≤ 7 → bits ≤ 15 → false ≡ ltb (octets * 8) (octet * 8 + bit + bits)
+ends-not octets octet bit bits h l m = sym (le-ltb (octets * 8) (octet * 8 + bit + bits) (omega arith))
+
 -- whole octets end where their bits end
 pub ends-is : (octets octet bit bits : ℕ) {up : ℕ} → up ≡ roundedUp (bit + bits) → ltb octets (octet + up) ≡ ltb (octets * 8) (octet * 8 + bit + bits)
 ends-is octets octet bit bits {up} e = by-test (ltb octets (octet + up)) refl
@@ -45,8 +55,8 @@ ends-is octets octet bit bits {up} e = by-test (ltb octets (octet + up)) refl
 module _ (b M : ℕ) (payload : List ℕ) (some : 0 < b) where
   pub first-none : {t : Bool} → t ≡ ltb (length payload * 8) (0 * 8 + 0 + b) → t ≡ true → false ≡ repeatsFirst M (codesIn b payload)
   unfolding repeatsFirst
-  first-none e h = rw (codes-none b payload 0 some (omega (arith, ltb-true (length payload * 8) (0 * 8 + 0 + b) (sym e ∙ h))))
+  first-none e h = rw (codes-all b payload, codes-none b payload 0 some (omega (arith, ltb-true (length payload * 8) (0 * 8 + 0 + b) (sym e ∙ h))))
 
   pub first-is : {t : Bool} → t ≡ ltb (length payload * 8) (0 * 8 + 0 + b) → t ≡ false → ltb M (numberAt payload 0 b) ≡ repeatsFirst M (codesIn b payload)
   unfolding repeatsFirst
-  first-is e h = rw (codes-next b payload 0 some (omega (arith, ltb-false (length payload * 8) (0 * 8 + 0 + b) (sym e ∙ h))))
+  first-is e h = rw (codes-all b payload, codes-next b payload 0 some (omega (arith, ltb-false (length payload * 8) (0 * 8 + 0 + b) (sym e ∙ h))))

@@ -1,18 +1,28 @@
 -- Runs, one code after another: what a turn owes to document 01's levels. Assumes nothing.
 use mathlib.Core.Path.{_≡_}
-use mathlib.Core.List.{List, [], _++_, flatMap}
-use Prim.Native.Nat.{ℕ, _+_, _*_, _^_, _≤_, _<_, min}
+use mathlib.Core.Bool.{cond}
+use mathlib.Core.List.{List, _++_, flatMap}
+use Prim.Native.Nat.{ℕ, _+_, _-_, _*_, _/_, _%_, _^_, _≤_, _<_, min}
+use lib.Dec.{leb}
 use lib.ListN.{length, replicate, take}
 use Rattle.format.specs.Lists.{_over_}
 use Rattle.format.specs.Layout.{levelOctets}
-use Rattle.format.specs.RunLength.{codesFrom, baseOf, levelsOf, levelsIn}
+use Rattle.format.specs.Refusals.{limit}
+use Rattle.format.specs.Bits.{fieldOf}
+use Rattle.format.specs.RunLength.{baseOf, levelsOf, levelsIn}
 use Rattle.run_length.specs.declared.Run.{Run}
 use Rattle.run_length.specs.declared.Turn.{Turn}
-use Rattle.run_length.specs.declared.Turn.the-variants as turn
 
 -- one more than the greatest count that is accepted: numbers above it need no telling apart
 abbrev pub cap : ℕ
-cap = 4194305
+cap = limit + 1
+
+-- "All whole codes in the payload are read; fewer than b bits at the end are ignored.": how many are left from bit p on
+unfoldable pub codesLeft : ℕ → List ℕ → ℕ → ℕ
+codesLeft b payload p = (length payload * 8 - p) / b
+
+abbrev pub codesFrom : ℕ → List ℕ → ℕ → List ℕ
+codesFrom b payload p = fieldOf payload p b (codesLeft b payload p)
 
 -- the place of a run's next code
 abbrev pub placeOf : Run → ℕ
@@ -22,7 +32,7 @@ placeOf r = r .octet .0 * 8 + r .bit
 pub record Coding (b M : ℕ) : Type 0 where
   pub some : 0 < b
   pub few : b ≤ 15
-  pub low : M < 2 ^ b
+  pub low : M ≤ 2 ^ b - 1
 
 -- a run somewhere in a payload; its weight is stopped at the cap
 pub record Within (payload : List ℕ) (r : Run) : Type 0 where
@@ -30,6 +40,26 @@ pub record Within (payload : List ℕ) (r : Run) : Type 0 where
   pub inside : placeOf r ≤ length payload * 8
   pub level-low : r .level < 2 ^ 15
   pub weight-low : r .weight ≤ cap
+
+-- and a whole code is left there
+pub record Waiting (b : ℕ) (payload : List ℕ) (r : Run) : Type 0 where
+  pub within : Within payload r
+  pub left : placeOf r + b ≤ length payload * 8
+
+-- the next code: a level, or more of the last one
+abbrev pub meaning : ℕ → ℕ → Run → ℕ → Turn
+meaning b M r code =
+    let level = leb code M in
+    let end = r .bit + b in
+    record {
+      points = cond level 1 0 + (code - M - 1) * r .weight;
+      next = record {
+        octet = record { 0 = r .octet .0 + end / 8 };
+        bit = end % 8;
+        level = cond level code (r .level);
+        weight = cond level 1 (min (baseOf b M * r .weight) cap);
+      };
+    }
 
 -- with the run's weight as it would be without a cap: what the codes from the run on mean is `count` more points of a level,
 -- and then what those from the next run on mean
@@ -47,16 +77,11 @@ pub record More (b M : ℕ) (payload : List ℕ) (r : Run) (n : ℕ) (next : Run
   pub few : n < 2 ^ 57
   pub exact : (weight : ℕ) → r .weight ≡ min weight cap → Exactly b M payload r weight n next
 
--- what a turn tells
-abbrev pub Told : ℕ → ℕ → List ℕ → Run → Turn → Type 0
-Told b M payload r (turn.Points n next) = More b M payload r n next
-Told b M payload r turn.End = codesFrom b payload (placeOf r) ≡ []
-
 -- before the first code
 abbrev pub firstRun : Run
 firstRun = record { octet = record { 0 = 0 }; bit = 0; level = 0; weight = 1 }
 
--- all codes taken: how many levels there are, up to the cap, and the first `room` of them stored
-pub record Walked (b M : ℕ) (payload : List ℕ) (room : ℕ) (lent : List ℕ) (points : ℕ) (levels : List ℕ) : Type 0 where
+-- all codes unrolled: how many levels there are, up to the cap, and the first `room` of them stored
+pub record Unrolling (b M : ℕ) (payload : List ℕ) (room : ℕ) (lent : List ℕ) (points : ℕ) (levels : List ℕ) : Type 0 where
   pub count : points ≡ min (length (levelsIn b M payload)) cap
   pub there : levels ≡ flatMap levelOctets (take room (levelsIn b M payload)) over lent

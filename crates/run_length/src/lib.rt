@@ -2,14 +2,15 @@
 ghost use mathlib.Core.Path.{_≡_};
 ghost use mathlib.Core.Bool.{cond};
 ghost use mathlib.Core.List.{flatMap};
-ghost use Prim.Native.Nat.{_+_, _-_, _*_, _<_, _≤_, _^_, min};
+ghost use Prim.Native.Nat.{_+_, _-_, _*_, _/_, _<_, _≤_, _^_, min};
 ghost use lib.Dec.{ltb};
 ghost use lib.ListN.{length, replicate};
 ghost use lib.Seq.{sets};
-ghost use Rattle.format.specs.Refusals.{left};
+ghost use Rattle.format.specs.Refusals.{limit, left};
+ghost use Rattle.format.specs.Bits.{numberAt};
 ghost use Rattle.format.specs.Layout.{levelSize, levelOctets};
 ghost use Rattle.format.specs.RunLength.{codesIn, repeatsFirst, runLength};
-ghost use Rattle.run_length.specs.Runs.{cap, Coding, Within, Told, Walked, firstRun};
+ghost use Rattle.run_length.specs.Runs.{cap, placeOf, Coding, Waiting, meaning, Unrolling, firstRun};
 use format::BitPlace;
 use format::OctetPlace;
 use format::Refusal;
@@ -17,7 +18,7 @@ use format::Unrolled;
 
 // One more than the greatest count that is accepted. A weight or a count that would be greater stops here: what is above it
 // is refused anyway, and nothing can overflow.
-const CAP: usize = 4194305;
+const CAP: usize = (format::LIMIT as usize) + 1;
 
 fn capped(x: usize) -> usize
     ensures { λ r. ⌜ r ≡ min x cap ⌝ }
@@ -44,10 +45,10 @@ pub struct Run {
     pub weight: usize,
 }
 
-// How many more points of the next run's level, or the end.
-pub enum Turn {
-    Points(usize, Run),
-    End,
+// How many more points of the next run's level.
+pub struct Turn {
+    pub points: usize,
+    pub next: Run,
 }
 
 // One of two numbers.
@@ -79,25 +80,25 @@ fn digit(code: usize, greatest: usize) -> usize
     0
 }
 
-// Where reading ends: "fewer than b bits at the end are ignored". The octets that a code reaches into are rounded up by 7 more
-// bits, which cannot overflow here.
+// Where reading ends: "fewer than b bits at the end are ignored". Where five octets are there, which reading a code asks for
+// too, no code ends the payload. The octets that a code reaches into are rounded up by 7 more bits, which cannot overflow here.
 fn ends(payload: &[u8], octet: OctetPlace, bit: usize, bits: usize) -> bool
     requires { ⌜ (octet .0 ≤ length (now payload)) × (bit ≤ 7) × (bits ≤ 15) ⌝ }
     ensures { λ r. ⌜ r ≡ ltb (length (now (payload .entry)) * 8) (octet .0 * 8 + bit + bits) ⌝ }
 {
+    if octet.0 + 5 <= payload.len() {
+        return false;
+    }
     payload.len() < octet.0 + places::octet_of(BitPlace(bit + bits + 7)).0
 }
 
 // Takes the next code. Levels and repeat codes alternate as the map has it, so a branch between them would be guessed wrong:
 // both are reckoned, and one is chosen.
 fn taken(bits: usize, greatest: usize, payload: &[u8], run: Run) -> Turn
-    requires { ⌜ Coding bits greatest × Within (now payload) run ⌝ }
-    ensures { λ r. ⌜ Told bits greatest (now (payload .entry)) run r ⌝ }
+    requires { ⌜ Coding bits greatest × Waiting bits (now payload) run ⌝ }
+    ensures { λ r. ⌜ r ≡ meaning bits greatest run (numberAt (now (payload .entry)) (placeOf run) bits) ⌝ }
 {
     let octet = run.octet;
-    if ends(payload, octet, run.bit, bits) {
-        return Turn::End;
-    }
     let end = BitPlace(run.bit + bits);
     let code = stream::read_in_octet(payload, octet, run.bit, bits) as usize;
     let is_level = code <= greatest;
@@ -110,13 +111,14 @@ fn taken(bits: usize, greatest: usize, payload: &[u8], run: Run) -> Turn
         level: chosen(is_level, code, run.level),
         weight: chosen(is_level, 1, raised),
     };
-    Turn::Points(one_if(is_level) + more, next)
+    let points = one_if(is_level) + more;
+    Turn { points, next }
 }
 
 // The greatest code of b bits, 2^b − 1.
 fn greatest_code(bits: usize) -> usize
     requires { ⌜ bits ≤ 15 ⌝ }
-    ensures { λ r. ⌜ (r + 1 ≡ 2 ^ bits) × (r < 2 ^ 15) ⌝ }
+    ensures { λ r. ⌜ (r ≡ 2 ^ bits - 1) × (r < 2 ^ 15) ⌝ }
 {
     (places::power(bits) - 1) as usize
 }
@@ -158,19 +160,22 @@ fn repeat(levels: &mut [u8], from: usize, to: usize, room: usize, level: u16)
     }
 }
 
-// Takes all codes: stores the first `room` levels, and answers how many there are, or the cap where they are more. With no
+// Unrolls all codes: stores the first `room` levels, and answers how many there are, or the cap where they are more. With no
 // room it decides, with all of them it stores.
-fn walked(bits: usize, greatest: usize, payload: &[u8], levels: &mut [u8], room: usize) -> usize
-    requires { ⌜ Coding bits greatest × (room ≤ 4194304) × (room * levelSize ≤ length (now levels)) ⌝ }
-    ensures { λ r. ⌜ Walked bits greatest (now (payload .entry)) room (now (levels .entry)) r (now (levels .exit)) ⌝ }
+fn unroll(bits: usize, greatest: usize, payload: &[u8], levels: &mut [u8], room: usize) -> usize
+    requires { ⌜ Coding bits greatest × (room ≤ limit) × (room * levelSize ≤ length (now levels)) ⌝ }
+    ensures { λ r. ⌜ Unrolling bits greatest (now (payload .entry)) room (now (levels .entry)) r (now (levels .exit)) ⌝ }
 {
     let mut run = start();
     let mut points = 0usize;
     loop {
-        let Turn::Points(more, next) = taken(bits, greatest, payload, run) else {
+        let octet = run.octet;
+        if ends(payload, octet, run.bit, bits) {
             return points;
-        };
-        let end = capped(points + more);
+        }
+        let turn = taken(bits, greatest, payload, run);
+        let end = capped(points + turn.points);
+        let next = turn.next;
         repeat(levels, points, end, room, next.level as u16);
         points = end;
         run = next;
@@ -213,15 +218,15 @@ pub fn run_length(
     if repeats_first(b, top, payload) {
         return Unrolled::Refused(Refusal::Repeat);
     }
-    if walked(b, top, payload, levels, 0) != count {
+    if unroll(b, top, payload, levels, 0) != count {
         return Unrolled::Refused(Refusal::Points);
     }
-    if 4194304 < count {
+    if format::LIMIT < declared {
         return Unrolled::Refused(Refusal::Points);
     }
-    if levels.len() / 2 < count {
+    if levels.len() / format::LEVEL_SIZE < count {
         return Unrolled::Refused(Refusal::Room);
     }
-    walked(b, top, payload, levels, count);
+    unroll(b, top, payload, levels, count);
     Unrolled::Levels(declared)
 }

@@ -2,7 +2,7 @@
 use mathlib.Core.Path.{_≡_, refl, sym, ap, ap₂, _∙_}
 use mathlib.Core.List.{List, _++_}
 use Prim.Native.Nat.{ℕ, _+_, _*_, _≤_, _<_}
-use native.Mathlib.Nat.{mul-zero}
+use native.Mathlib.Nat.{mul-zero, le-refl}
 use native.Mathlib.Omega.{arith}
 use lib.ListN.{length, getD, take, drop, length-append, take-append-drop}
 use lib.Seq.{sets, sets-eq, ext-getD, getD-take, length-take-le, getD-append-add}
@@ -15,7 +15,8 @@ use Rattle.laws.specs.Bits.{bit-lt, number-ext, octet}
 use Rattle.laws.specs.Strings.{bits-listed, octets-front, number-past, length-string, length-padded}
 use Rattle.writer.specs.Pen.{Held, Ready, Moved, Finished}
 use Rattle.writer.specs.declared.Pen.{Pen}
-use Rattle.writer.proofs.Pens.{moved-ready}
+use Rattle.writer.proofs.Pens.{moved-ready, moved-then}
+use Rattle.section7.specs.Parts.{Begun}
 
 -- octets are those of their bits
 octets-own : (octets : List ℕ) → ((k : ℕ) → getD octets k 0 < 256) → (n : ℕ) → n ≤ length octets → octetsOf (listed (n * 8) (bitAt octets)) n ≡ take n octets
@@ -50,19 +51,29 @@ none-set w xs octets at e =
     let none : length (stringOf w xs) ≡ 0 = length-string w xs ∙ ap (λ (n : ℕ). length xs * n) e ∙ mul-zero (length xs) in
     ap (λ (n : ℕ). sets octets at (octetsOf (stringOf w xs) (roundedUp n))) (sym none)
 
-module _ {p : Pen} {place : OctetPlace} (e : p ≡ fresh place) {more octets octets′ : List ℕ} {q : Pen} (m : Moved p more octets octets′ q)
-    {n : ℕ} (size : length more ≡ n) (r : place .0 + roundedUp n ≤ length octets) where
-  pub part-ready : Ready q 0 octets′
-  part-ready = moved-ready m 0 (fresh-ready e n r) (omega arith)
+-- what stood before the part is as good as written by the pen
+pub begun : {p : Pen} {place : OctetPlace} → p ≡ fresh place → {more octets octets′ : List ℕ} {q : Pen} → Moved p more octets octets′ q → {n : ℕ} → length more ≡ n
+    → place .0 + roundedUp n ≤ length octets → ((k : ℕ) → getD octets k 0 < 256) → Begun place more octets octets′ q
+begun e m size room h = record { below = h; room = rw size room; moved = rw e at m }
 
-  -- what stood before the part is as good as written by the pen
-  pub part-done : ((k : ℕ) → getD octets k 0 < 256) → {octets″ : List ℕ} → Finished q octets′ octets″ → octets″ ≡ sets octets (place .0) (padded more)
-  part-done h f =
+module _ {place : OctetPlace} {more octets octets′ : List ℕ} {q : Pen} (s : Begun place more octets octets′ q) where
+  -- there is room for a last number
+  pub begun-ready : (w : ℕ) → place .0 + roundedUp (length more + w) ≤ length octets → Ready q w octets′
+  begun-ready w l = moved-ready (s .moved) w (record { few = omega arith; small = omega arith; room = omega arith }) (le-refl (length more + w))
+
+  pub begun-more : {last octets″ : List ℕ} {r : Pen} → Moved q last octets′ octets″ r → place .0 + roundedUp (length more + length last) ≤ length octets → Begun place (more ++ last) octets octets″ r
+  begun-more {last} m l = record { below = s .below; room = rw (length-append more last) l; moved = moved-then (s .moved) m }
+
+  pub part-ready : Ready q 0 octets′
+  part-ready = begun-ready 0 (omega (arith, s .room))
+
+  pub part-done : {octets″ : List ℕ} → Finished q octets′ octets″ → octets″ ≡ sets octets (place .0) (padded more)
+  part-done f =
       let at = place .0 in
       let string = listed (at * 8) (bitAt octets) in
       let long : length string ≡ at * 8 = length-listed (at * 8) (bitAt octets) in
-      let own : octetsOf string at ≡ take at octets = octets-own octets h at (omega arith) in
-      let front : length (take at octets) ≡ at = length-take-le at octets (omega arith) in
+      let own : octetsOf string at ≡ take at octets = octets-own octets (s .below) at (omega (arith, s .room)) in
+      let front : length (take at octets) ≡ at = length-take-le at octets (omega (arith, s .room)) in
       let all : roundedUp (length (string ++ more)) ≡ at + roundedUp (length more) = omega (arith, length-append string more, long) in
       let held : Held string octets octets at 0 0 = record {
         bits = bits-listed (at * 8) (bitAt octets) (bit-lt 8 octets);
@@ -71,7 +82,7 @@ module _ {p : Pen} {place : OctetPlace} (e : p ≡ fresh place) {more octets oct
         front = rw (own, front) (sym (take-append-drop at octets));
         long = refl;
       } in
-      f _ _ (m .held string octets (rw e held))
+      f _ _ (s .moved .held string octets held)
       ∙ ap (λ (o : List ℕ). o over octets) (ap (octetsOf (string ++ more)) all ∙ octets-behind string more at (roundedUp (length more)) long ∙ ap (λ (o : List ℕ). o ++ padded more) own)
       ∙ ap (λ (i : ℕ). take at octets ++ padded more ++ drop i octets) (length-append (take at octets) (padded more) ∙ ap (λ (i : ℕ). i + length (padded more)) front)
-      ∙ sym (sets-eq (padded more) octets at (omega (arith, length-padded more)))
+      ∙ sym (sets-eq (padded more) octets at (omega (arith, length-padded more, s .room)))

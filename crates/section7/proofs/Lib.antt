@@ -1,4 +1,3 @@
-pub mod Listing
 pub mod Puts
 pub mod Aligned
 pub mod Values

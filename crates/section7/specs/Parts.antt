@@ -1,109 +1,78 @@
 -- The parts of a payload, from the records of its groups: what each is, and what the loops are asked. Assumes nothing.
-use mathlib.Core.Path.{_≡_}
-use mathlib.Core.List.{List, [], _∷_, _++_, map, flatMap}
+use mathlib.Core.List.{List, [], _∷_, map}
 use Prim.Native.Nat.{ℕ, _+_, _-_, _*_, _/_, _^_, _≤_, _<_}
 use lib.Dec.{ltb}
-use lib.ListN.{length}
-use lib.Seq.{slice}
+use lib.ListN.{length, getD}
 use Rattle.format.specs.Lists.{least, _over_}
 use Rattle.format.specs.Bits.{stringOf, roundedUp}
-use Rattle.format.specs.Layout.{groupSize, groupAt}
-use Rattle.format.specs.Refusals.{_gives_, first, Left, left}
+use Rattle.format.specs.Layout.{groupSize}
+use Rattle.format.specs.Refusals.{_gives_, first, limit, Left, left}
 use Rattle.format.specs.Grouping.{widthOf}
-use Rattle.format.specs.Packing.{padded, lengthCodes}
 use Rattle.format.specs.declared.Refusal.the-variants.{Room}
 use Rattle.format.specs.declared.Group.{Group}
-use Rattle.format.specs.declared.Places.{Places}
+use Rattle.format.specs.declared.OctetPlace.{OctetPlace}
 use Rattle.format.specs.declared.Stored.{Stored}
 use Rattle.format.specs.declared.Stored.the-variants as stored
 use Rattle.format.specs.declared.Template.{Template}
-use Rattle.numbers.specs.Records.{numberOf}
+use Rattle.laws.specs.Groups.{groupIn}
+use Rattle.writer.specs.Pen.{Moved}
+use Rattle.writer.specs.declared.Pen.{Pen}
+use Rattle.numbers.specs.Records.{codedNumber}
 use Rattle.numbers.specs.declared.Field.the-variants.{References, Widths, Lengths}
-use Rattle.section7.specs.declared.Coding.{Coding}
+use Rattle.section7.specs.declared.FieldCoding.{FieldCoding}
 
 -- ---- codes
 
-abbrev pub codeOf : Coding → Group → ℕ
-codeOf c g = (numberOf (c .field) g - c .reference) / c .increment
+abbrev pub codeOf : FieldCoding → Group → ℕ
+codeOf c r = (codedNumber (c .field) r - c .reference) / c .increment
 
-abbrev pub codesOf : Coding → List Group → List ℕ
-codesOf c groups = map (codeOf c) groups
+abbrev pub codesBy : FieldCoding → List Group → List ℕ
+codesBy c records = map (codeOf c) records
 
 -- "group references at the number width, width codes, length codes"
-abbrev pub referencesCoding : Template → Coding
+abbrev pub referencesCoding : Template → FieldCoding
 referencesCoding t = record { field = References; reference = 0; increment = 1; bits = t .width }
 
-abbrev pub widthsCoding : Template → Coding
+abbrev pub widthsCoding : Template → FieldCoding
 widthsCoding t = record { field = Widths; reference = t .widths .reference; increment = 1; bits = t .widths .bits }
 
-abbrev pub lengthsCoding : Template → Coding
+abbrev pub lengthsCoding : Template → FieldCoding
 lengthsCoding t = record { field = Lengths; reference = t .lengths .reference; increment = t .lengths .increment; bits = t .lengths .bits }
 
--- the first n groups of the octets have codes that fit
-pub record Codable (c : Coding) (octets : List ℕ) (n : ℕ) : Type 0 where
+-- the first n records in the octets have codes that fit
+pub record Codable (c : FieldCoding) (octets : List ℕ) (n : ℕ) : Type 0 where
   pub there : n * groupSize ≤ length octets
   pub top : c .bits ≤ 32
   pub pos : 0 < c .bits → 0 < c .increment
-  pub low : (k : ℕ) → k < n → c .reference ≤ numberOf (c .field) (groupAt octets k)
-  pub fit : (k : ℕ) → k < n → codeOf c (groupAt octets k) < 2 ^ c .bits
+  pub low : (k : ℕ) → k < n → c .reference ≤ codedNumber (c .field) (groupIn octets k)
+  pub fit : (k : ℕ) → k < n → codeOf c (groupIn octets k) < 2 ^ c .bits
 
 -- ---- values
 
--- the numbers of a group
-abbrev pub numbersOf : List ℕ → Group → List ℕ
-numbersOf numbers g = slice (g .start) (g .start + g .length) numbers
+-- those of a group, as a string of bits: what `valueString` joins
+abbrev pub valuesOf : List ℕ → List ℕ
+valuesOf group = stringOf (widthOf group) (map (λ number. number - least group) group)
 
--- its values, as a string of bits
-abbrev pub valueStringOf : List ℕ → Group → List ℕ
-valueStringOf numbers g = stringOf (g .width) (map (λ number. number - g .least) (numbersOf numbers g))
+abbrev pub groupBits : Group → ℕ
+groupBits r = r .length * r .width
 
-abbrev pub valueBits : Group → ℕ
-valueBits g = g .length * g .width
+-- records whose bits are counted without wrapping
+pub record FewBits (r : Group) : Type 0 where
+  pub short : r .length ≤ limit
+  pub narrow : r .width ≤ 32
 
--- the record of one group of the numbers
-pub record Valued (numbers : List ℕ) (g : Group) : Type 0 where
-  pub some : 0 < g .length
-  pub within : g .start + g .length ≤ length numbers
-  pub least : g .least ≡ least (numbersOf numbers g)
-  pub width : g .width ≡ widthOf (numbersOf numbers g)
-
--- a lent list that holds the records of as many groups
-pub record Sound (numbers octets : List ℕ) (count : ℕ) : Type 0 where
-  pub some : 0 < count
-  pub few : count ≤ 4194304
+pub record Countable (octets : List ℕ) (count : ℕ) : Type 0 where
+  pub few : count ≤ limit
   pub there : count * groupSize ≤ length octets
-  pub short : length numbers ≤ 4194304
-  pub each : (k : ℕ) → k < count → Valued numbers (groupAt octets k)
+  pub each : (k : ℕ) → k < count → FewBits (groupIn octets k)
 
--- groups whose bits are counted without wrapping
-pub record Narrow (octets : List ℕ) (count : ℕ) : Type 0 where
-  pub few : count ≤ 4194304
-  pub there : count * groupSize ≤ length octets
-  pub short : (k : ℕ) → k < count → groupAt octets k .length ≤ 4194304
-  pub narrow : (k : ℕ) → k < count → groupAt octets k .width ≤ 32
+-- ---- a part
 
--- ---- the payload
-
-abbrev pub placesFor : Template → ℕ → ℕ → Places
-placesFor t n bits =
-    let widths = roundedUp (n * t .width) in
-    let lengths = widths + roundedUp (n * t .widths .bits) in
-    let values = lengths + roundedUp (n * t .lengths .bits) in
-    record {
-      references = record { 0 = 0 };
-      widths = record { 0 = widths };
-      lengths = record { 0 = lengths };
-      values = record { 0 = values };
-      end = record { 0 = values + roundedUp bits };
-    }
-
--- `payloadOf`, from records
-abbrev pub payloadIn : List ℕ → Template → List Group → List ℕ
-payloadIn numbers t groups =
-    padded (stringOf (t .width) (map (numberOf References) groups))
-    ++ padded (stringOf (t .widths .bits) (map (λ g. numberOf Widths g - t .widths .reference) groups))
-    ++ padded (stringOf (t .lengths .bits) (lengthCodes (t .lengths) (map (numberOf Lengths) groups)))
-    ++ padded (flatMap (valueStringOf numbers) groups)
+-- from an octet on the string `more` is written, and the pen stands behind it
+pub record Begun (place : OctetPlace) (more octets octets′ : List ℕ) (q : Pen) : Type 0 where
+  pub below : (k : ℕ) → getD octets k 0 < 256
+  pub room : place .0 + roundedUp (length more) ≤ length octets
+  pub moved : Moved (record { place = place; number = 0; pending = 0 }) more octets octets′ q
 
 -- "10 for the payload": it is written where it has room
 abbrev pub payloadLent : List ℕ → List ℕ → Left Stored

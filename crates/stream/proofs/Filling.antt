@@ -12,7 +12,7 @@ use Rattle.stream.specs.declared.Cursor.{Cursor}
 use Rattle.stream.specs.declared.Step.{Step}
 use Rattle.stream.specs.declared.Step.the-variants.{Number}
 use Rattle.stream.specs.Cursor.{stepped}
-use Rattle.stream.proofs.Cursors.{Moved, step-less}
+use Rattle.stream.proofs.Cursors.{Behind, step-less}
 
 -- k numbers of those that the cursor `first` had are in the lent ones, and `here` is behind them
 pub record Filling (octets : List ℕ) (first : Cursor) (lent numbers : List ℕ) (here : Cursor) (k : ℕ) : Type 0 where
@@ -35,7 +35,7 @@ filling-start octets first lent = record {
 }
 
 module _ {octets : List ℕ} {first here : Cursor} {lent numbers : List ℕ} {k : ℕ} (f : Filling octets first lent numbers here k) where
-  pub filling-more : {number : ℕ} {behind : Cursor} → first .width ≤ 32 → first .left ≤ length lent → Moved octets here number behind
+  pub filling-more : {number : ℕ} {behind : Cursor} → first .width ≤ 32 → first .left ≤ length lent → Behind octets here number behind
       → Filling octets first lent (set numbers k number) behind (k + 1)
   filling-more {number} {behind} small room m = record {
     place = omega (arith, m .place-is, f .place, f .width, add-mul k 1 (first .width));

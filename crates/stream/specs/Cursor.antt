@@ -1,5 +1,5 @@
 -- The cursor: document 01's fields, number by number. Assumes nothing.
-use Prim.Native.Nat.{ℕ, _+_, _-_}
+use Prim.Native.Nat.{ℕ, _+_, _-_, _^_, _≤_, _<_}
 use mathlib.Core.Bool.{cond}
 use mathlib.Core.List.{List, [], _∷_}
 use lib.Dec.{ltb, eqb}
@@ -17,6 +17,11 @@ use Rattle.stream.specs.declared.Step.the-variants.{Number, End}
 unfoldable pub madeAt : BitPlace → ℕ → ℕ → Made
 madeAt place width count =
     first made.Refused (ltb 32 width gives Width ∷ []) (made.Cursor (record { place = place; width = width; left = count }))
+
+-- a cursor that moves on within 64 bits
+pub record Inside (c : Cursor) : Type 0 where
+  pub place : c .place .0 < 2 ^ 63
+  pub width : c .width ≤ 32
 
 -- the number at the cursor, and the cursor behind it; the end where none is left
 unfoldable pub stepped : List ℕ → Cursor → Step

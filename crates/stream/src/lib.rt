@@ -5,7 +5,7 @@ ghost use lib.ListN.{length, getD};
 ghost use Rattle.format.specs.Lists.{_over_};
 ghost use Rattle.format.specs.Refusals.{left};
 ghost use Rattle.format.specs.Bits.{numberAt, fieldOf, readField};
-ghost use Rattle.stream.specs.Cursor.{madeAt, stepped};
+ghost use Rattle.stream.specs.Cursor.{madeAt, Inside, stepped};
 use format::BitPlace;
 use format::Fetched;
 use format::OctetPlace;
@@ -149,7 +149,7 @@ impl Cursor {
 
     // Width 0 gives zeros until none are left, whatever the octets are.
     pub fn next(self, octets: &[u8]) -> Step
-        requires { ⌜ (self .place .0 < 2 ^ 63) × (self .width ≤ 32) ⌝ }
+        requires { ⌜ Inside self ⌝ }
         ensures { λ r. ⌜ r ≡ stepped (now (octets .entry)) self ⌝ }
     {
         if self.left == 0 {

@@ -1,5 +1,5 @@
 -- Writing a field with the pen. Assumes nothing.
-use mathlib.Core.Path.{_≡_, refl, sym, ap, _∙_}
+use mathlib.Core.Path.{_≡_, refl, sym, ap, ap₂, _∙_}
 use mathlib.Core.Bool.{true, false}
 use mathlib.Core.List.{List, [], _∷_, _++_, append-nil}
 use Prim.Native.Nat.{ℕ, _+_, _-_, _*_, _/_, _%_, _^_, _≤_, _<_}
@@ -12,15 +12,16 @@ use lib.ListN.{length, getD, take, drop, length-append}
 use borrow.Author.Tests.{le-leb, lt-leb}
 use lib.Seq.{take-suc, take-all, length-take-le}
 use Rattle.format.specs.Lists.{listed, anyOf}
-use Rattle.format.specs.Bits.{bitAt, numberOf, bit, stringOf, spanOf, roundedUp, written}
+use Rattle.format.specs.Bits.{bitAt, numberOf, bit, stringOf, spanOf, roundedUp, written, writeRefusals, writeField}
 use Rattle.format.specs.Refusals.{left}
 use Rattle.format.specs.declared.OctetPlace.{OctetPlace}
 use Rattle.format.specs.declared.Stored.the-variants as stored
+use Rattle.laws.specs.First.{Clear, clears}
 use Rattle.laws.specs.Lists.{length-listed, getD-listed, any-here, any-later, any-end}
 use Rattle.laws.specs.Bits.{bit-lt, number-ext, number-mid, octet as octet-is}
 use Rattle.laws.specs.Strings.{bits-listed, length-string, string-append}
 use Rattle.laws.specs.Spans.{span-some}
-use Rattle.laws.specs.Written.{fits-each}
+use Rattle.laws.specs.Written.{fits-each, written-empty}
 use Rattle.writer.specs.Pen.{Held, Ready, Moved, Finished, Job}
 use Rattle.writer.specs.declared.Pen.{Pen}
 use Rattle.writer.proofs.Pens.{moved-none, moved-then, moved-ready}
@@ -107,6 +108,11 @@ module _ {lent : List ℕ} {s w : ℕ} {xs : List ℕ} (j : Job lent s w xs) whe
 
 -- ---- the answer
 
-pub answered : {span : OctetPlace} {n : ℕ} {octets octets′ : List ℕ} → span .0 ≡ n → octets ≡ octets′
-    → left (stored.Span span) octets ≡ left (stored.Span (record { 0 = n })) octets′
-answered e d = rw (← e, ← d)
+-- where no row refuses: the span, and what is written, which of an empty list is nothing
+module _ (xs : List ℕ) (s w : ℕ) (lent : List ℕ) {span : OctetPlace} (e : span .0 ≡ spanOf s w (length xs)) (h : Clear (writeRefusals xs s w lent)) where
+  pub field-written : {octets : List ℕ} → octets ≡ written [] lent s w xs → left (stored.Span span) octets ≡ writeField xs s w lent
+  unfolding writeField
+  field-written d = ap₂ (λ (n : ℕ) (o : List ℕ). left (stored.Span (record { 0 = n })) o) e d ∙ clears _ _ _ h
+
+  pub field-empty : length xs ≡ 0 → left (stored.Span span) lent ≡ writeField xs s w lent
+  field-empty n = field-written (written-empty [] lent s w xs n)

@@ -12,25 +12,7 @@ Inv-loop text start₀ at₀ start at = (start ≤ at) × (at ≤ length text)
 abbrev μ-loop : tie.MeasureT-loop
 μ-loop text start₀ at₀ start at = length text - at
 
-loop-holds : tie.Need-loop-holds Inv-loop μ-loop
-loop-holds c = omega arith
-
-answer-to-requires : tie.Need-answer-to-requires Inv-loop μ-loop
-answer-to-requires c κs = search needs
-
-add-at : tie.Need-add-at Inv-loop μ-loop
-add-at c = omega arith
-
-loop-less : tie.Need-loop-less Inv-loop μ-loop
-loop-less c = omega arith
-
-loop-again : tie.Need-loop-again Inv-loop μ-loop
-loop-again c = omega arith
-
-returns : tie.Need-returns Inv-loop μ-loop
-returns c = search needs
-
 pub answer-lines-spec : {M : Type 1} → statement M
 answer-lines-spec =
     tie.close
-    (tie.spec Inv-loop μ-loop loop-holds answer-to-requires add-at loop-less loop-again returns)
+    (tie.spec Inv-loop μ-loop (λ c. omega arith) (λ c κs. search needs) (λ c. omega arith) (λ c. omega arith) (λ c. omega arith) (λ c. search needs))

@@ -1,4 +1,4 @@
--- `coding::divisor_of` meets its contract: no number above the divisor divides, so that the search from it down finds the same. Assumes nothing.
+-- `coding::divisor_of` meets its contract. No number above the divisor divides, so that the search from it down finds the same. Assumes nothing.
 use mathlib.Core.Path.{_≡_, refl, sym, _∙_}
 use Prim.Native.Nat.{_<_, _≤_}
 use native.Mathlib.Omega.{arith}
@@ -14,18 +14,6 @@ Inv-loop step divisor₀ divisor = (0 < divisor) × (divisor ≤ 255) × (diviso
 abbrev μ-loop : tie.MeasureT-loop
 μ-loop step divisor₀ divisor = divisor
 
-loop-holds : tie.Need-loop-holds Inv-loop μ-loop
-loop-holds c = (omega arith, omega arith, refl)
-
-rem-if1 : tie.Need-rem-if1 Inv-loop μ-loop
-rem-if1 c = search needs
-
-sub-divisor : tie.Need-sub-divisor Inv-loop μ-loop
-sub-divisor c = omega arith
-
-loop-less : tie.Need-loop-less Inv-loop μ-loop
-loop-less c = omega arith
-
 loop-again : tie.Need-loop-again Inv-loop μ-loop
 loop-again c =
     let inv = c .before .loop .inv in
@@ -38,4 +26,12 @@ returns c = let inv = c .before .loop .inv in (sym (inv .2 ∙ divisor-here _ _ 
 pub divisor-of-spec : {M : Type 1} → statement M
 divisor-of-spec =
     tie.close
-    (tie.spec Inv-loop μ-loop loop-holds rem-if1 sub-divisor loop-less loop-again returns)
+    (tie.spec
+    Inv-loop
+    μ-loop
+    (λ c. (omega arith, omega arith, refl))
+    (λ c. search needs)
+    (λ c. search needs)
+    (λ c. search needs)
+    loop-again
+    returns)

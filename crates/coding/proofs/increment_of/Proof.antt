@@ -9,12 +9,14 @@ returns : tie.Need-returns
 unfolding incrementOf
 returns c = (simp (le-leb _ _ (c .if1 .taken)), c .if1 .taken)
 
-divisor-of-requires : tie.Need-divisor-of-requires
-divisor-of-requires c κs = search needs
-
 returns-2 : tie.Need-returns-2
 unfolding incrementOf
 returns-2 c = simp (lt-leb _ _ (c .before .if1 .left)) (c .divisor-of .ensures)
 
 pub increment-of-spec : {M : Type 1} → statement M
-increment-of-spec = tie.close (tie.spec returns divisor-of-requires returns-2)
+increment-of-spec =
+    tie.close
+    (tie.spec
+    returns
+    (λ c κs. search needs)
+    returns-2)

@@ -10,14 +10,11 @@ returns : tie.Need-returns
 unfolding bits digitsIn
 returns c = (rw (c .if1 .taken, div-zero (c .before .args .difference)), omega arith)
 
-div-bits : tie.Need-div-bits
-div-bits c = search needs
-
-bits-requires : tie.Need-bits-requires
-bits-requires c κs = search needs
-
-returns-2 : tie.Need-returns-2
-returns-2 c = search needs
-
 pub length-bits-spec : {M : Type 1} → statement M
-length-bits-spec = tie.close (tie.spec returns div-bits bits-requires returns-2)
+length-bits-spec =
+    tie.close
+    (tie.spec
+    returns
+    (λ c. search needs)
+    (λ c κs. search needs)
+    (λ c. search needs))

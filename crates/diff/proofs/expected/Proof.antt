@@ -7,14 +7,8 @@ use Rattle.diff.proofs.expected.Tie as tie
 returns : tie.Need-returns
 returns c = search expected-first
 
-add-result : tie.Need-add-result
-add-result c = search needs
-
-sub-result : tie.Need-sub-result
-sub-result c = search needs
-
 returns-2 : tie.Need-returns-2
 returns-2 c = search expected-second
 
 pub expected-spec : {M : Type 1} → statement M
-expected-spec = tie.close (tie.spec returns add-result sub-result returns-2)
+expected-spec = tie.close (tie.spec returns (λ c. search needs) (λ c. search needs) returns-2)

@@ -15,29 +15,8 @@ mul-at-2 c = omega (arith, product _ _ 2 4 (c .before .pre .2) (c .before .pre .
 add-t6 : tie.Need-add-t6
 add-t6 c = omega (arith, product _ _ 2 4 (c .before .pre .2) (c .before .pre .1))
 
-mul-read-number : tie.Need-mul-read-number
-mul-read-number c = search needs
-
-sub-read-number : tie.Need-sub-read-number
-sub-read-number c = search needs
-
-read-number-requires : tie.Need-read-number-requires
-read-number-requires c κs = search needs
-
-grown-requires : tie.Need-grown-requires
-grown-requires c κs = search needs
-
-read-number-requires-2 : tie.Need-read-number-requires-2
-read-number-requires-2 c κs = search needs
-
-sub-result : tie.Need-sub-result
-sub-result c = search needs
-
 returns : tie.Need-returns
 returns c = search minimum-minus
-
-add-result : tie.Need-add-result
-add-result c = search needs
 
 returns-2 : tie.Need-returns-2
 returns-2 c = search minimum-plus
@@ -49,12 +28,12 @@ minimum-spec =
     mul-at
     mul-at-2
     add-t6
-    mul-read-number
-    sub-read-number
-    read-number-requires
-    grown-requires
-    read-number-requires-2
-    sub-result
+    (λ c. search needs)
+    (λ c. search needs)
+    (λ c κs. search needs)
+    (λ c κs. search needs)
+    (λ c κs. search needs)
+    (λ c. search needs)
     returns
-    add-result
+    (λ c. search needs)
     returns-2)

@@ -12,9 +12,6 @@ use borrow.Author.Needs.{needs}
 use Rattle.diff.proofs.signed.Statement.{statement}
 use Rattle.diff.proofs.signed.Tie as tie
 
-cast-result : tie.Need-cast-result
-cast-result c = search needs
-
 difference : (n : ℕ) → n < 2 ^ 63 → toZ w64 n -ℤ pos bias ≡ subℕ n bias
 difference n l = rw (toZ-pos w64 {n = n} l)
 
@@ -29,4 +26,4 @@ unfolding kept
 returns c = toZ-ofZ (sub-result c) ∙ difference (c .args .number) (omega arith)
 
 pub signed-spec : {M : Type 1} → statement M
-signed-spec = tie.close (tie.spec cast-result sub-result returns)
+signed-spec = tie.close (tie.spec (λ c. search needs) (λ c. search needs) sub-result returns)

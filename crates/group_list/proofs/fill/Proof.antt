@@ -47,6 +47,7 @@ use denote.Triple.Table.{entered, cited}
 use denote.Triple.Walked.{says, needs, Stays, stay-slice, stay-none-slice, stay-none, walkOf, goes-slice, goes-none-slice, goes-none, ends-at, walked, walk-meets}
 use denote.Exit.{yes}
 use Rattle.format.specs.Lists.{listed, _over_}
+use Rattle.format.specs.Layout.{numbersPerGroup}
 use Rattle.laws.specs.Lists.{length-listed, length-over, grown}
 use Rattle.group_list.specs.Listing.{noGroup, groupAmong}
 use Rattle.group_list.proofs.Walking.{Row, word, groupTy, listTy, lentAt, octets, scaled, placed, machine, tells, shown, typed, counted, twice, Upto, Nearer, nearer-wf}
@@ -72,7 +73,7 @@ numbersTy = sliceTy (tyRef (named 1) imm (tyInt w32))
 
 module _ {M : Type 1} (𝓤 : URA M) (H : Heap 𝓤) (A : Atoms 𝓤) (W : Given 𝓤 H A) (mem : Memory → SProp 𝓤) (run : Routine → Fun 𝓤) (κ κ′ : Lft) (q q′ : Share)
     (b o : ℕ) (γ : GName) (ys : List Group) (b′ o′ : ℕ) (γ′ : GName) (ms : List ℕ) (n : ℕ)
-    (gn : Room Row (length ys)) (rn : Room u32 (length ms)) (nf : n < 2 ^ 64) (hn : n ≤ length ys) (hm : n * 4 ≤ length ms) where
+    (gn : Room Row (length ys)) (rn : Room u32 (length ms)) (nf : n < 2 ^ 64) (hn : n ≤ length ys) (hm : n * numbersPerGroup ≤ length ms) where
   abbrev x : RefT (List Group)
   x = lentAt b o γ ys
 
@@ -115,7 +116,7 @@ module _ {M : Type 1} (𝓤 : URA M) (H : Heap 𝓤) (A : Atoms 𝓤) (W : Given
   abbrev to : ℕ → Gather 𝓤 H A mem run .Ghost
   to k = (((κ′, tt), (q′, tt), tt, (z, (k, tt)), (s′ ∷ [], (vint w64 k ∷ [], tt))), tt)
 
-  goes : (k : ℕ) → k < 2 ^ 64 → (k + 1) * 4 ≤ length ms → ent 𝓤 (sep 𝓤 (A .lft κ′ q′) (sem 𝓤 H A Own′)) (Gather 𝓤 H A mem run .pre (to k))
+  goes : (k : ℕ) → k < 2 ^ 64 → (k + 1) * numbersPerGroup ≤ length ms → ent 𝓤 (sep 𝓤 (A .lft κ′ q′) (sem 𝓤 H A Own′)) (Gather 𝓤 H A mem run .pre (to k))
   goes k gi within =
       qed W (‵ (flft κ′ q′) ∷ ‵ Own′ ∷ []) ∵ says ! within $ nothing ! $ move ! (1 ∷ 0 ∷ []) $ join ! $ frame ! $
       nothing ! $ counted ! k gi $ fjoin ! $ move ! (1 ∷ 0 ∷ []) $ fjoin ! $ done !

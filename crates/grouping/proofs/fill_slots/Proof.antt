@@ -1,67 +1,22 @@
 -- `grouping::fill_slots` meets its contract. Assumes nothing.
 use mathlib.Core.Path.{_≡_, refl}
 use Prim.Native.Nat.{_-_}
-use native.Mathlib.Omega.{arith}
 use lib.ListN.{length}
 use borrow.Author.Needs.{needs}
-use Rattle.format.specs.Layout.{numbersIn, groupNumbers}
+use Rattle.format.specs.Layout.{numbersIn, groupNumbers, numbersPerGroup}
 use Rattle.format.specs.declared.Group.{Group}
-use Rattle.grouping.proofs.Filling.{Filling, filling-start, filling-full, filling-more, filling-end}
+use Rattle.grouping.proofs.Filling.{GroupsStored, stored-none, stored-more, stored-full, stored-all}
 use Rattle.grouping.proofs.fill_slots.Statement.{statement}
 use Rattle.grouping.proofs.fill_slots.Tie as tie
 
-four : (g : Group) → length (groupNumbers g) ≡ 4
+four : (g : Group) → length (groupNumbers g) ≡ numbersPerGroup
 four g = refl
 
 abbrev Inv-loop : tie.InvT-loop
-Inv-loop numbers lookahead slots₀ count room start₀ k₀ slots start k = Filling (numbersIn numbers) lookahead groupNumbers 4 four slots₀ slots start k
+Inv-loop numbers lookahead added slots₀ count room start₀ k₀ slots start k = GroupsStored (numbersIn numbers) lookahead added groupNumbers numbersPerGroup slots₀ slots start k
 
 abbrev μ-loop : tie.MeasureT-loop
-μ-loop numbers lookahead slots₀ count room start₀ k₀ slots start k = count - start
-
-count-of-requires : tie.Need-count-of-requires Inv-loop μ-loop
-count-of-requires c κs = search needs
-
-loop-holds : tie.Need-loop-holds Inv-loop μ-loop
-loop-holds c = filling-start _ _ groupNumbers 4 four _
-
-same-length : tie.Need-same-length Inv-loop μ-loop
-same-length c = c .before .before .loop .inv .long
-
-returns : tie.Need-returns Inv-loop μ-loop
-returns c = filling-full _ _ groupNumbers 4 four (c .before .before .loop .inv) (c .if1 .taken) (omega (arith, c .before .before .before .count-of .ensures))
-
-next-group-requires : tie.Need-next-group-requires Inv-loop μ-loop
-next-group-requires c κs = (c .before .before .before .before .before .before .pre, omega (arith, c .before .before .before .count-of .ensures))
-
-store-slot-requires : tie.Need-store-slot-requires Inv-loop μ-loop
-store-slot-requires c κs = omega arith
-
-size-requires : tie.Need-size-requires Inv-loop μ-loop
-size-requires c κs = search needs
-
-add-start : tie.Need-add-start Inv-loop μ-loop
-add-start c = omega arith
-
-add-k : tie.Need-add-k Inv-loop μ-loop
-add-k c = omega arith
-
-loop-less : tie.Need-loop-less Inv-loop μ-loop
-loop-less c = let g = c .before .before .before .before .before .next-group .ensures in omega (arith, g .some, g .within, c .before .before .before .before .before .before .before .before .before .count-of .ensures)
-
-loop-again : tie.Need-loop-again Inv-loop μ-loop
-loop-again c =
-    rw (c .size .ensures .0)
-    (filling-more _ _ groupNumbers 4 four (c .before .before .before .before .before .before .before .before .loop .inv) (c .before .before .before .before .before .next-group .ensures) (c .before .before .before .before .before .before .if1 .left) (c .before .before .before .store-slot .ensures))
-
-cast-t16 : tie.Need-cast-t16 Inv-loop μ-loop
-cast-t16 c = let inv = c .before .loop .inv in omega (arith, inv .few, inv .within, c .before .before .before .before .before .pre .few)
-
-same-length-2 : tie.Need-same-length-2 Inv-loop μ-loop
-same-length-2 c = c .before .loop .inv .long
-
-returns-2 : tie.Need-returns-2 Inv-loop μ-loop
-returns-2 c = filling-end _ _ groupNumbers 4 four (c .before .loop .inv) (omega (arith, c .before .before .count-of .ensures))
+μ-loop numbers lookahead added slots₀ count room start₀ k₀ slots start k = count - start
 
 pub fill-slots-spec : {M : Type 1} → statement M
 fill-slots-spec =
@@ -69,17 +24,17 @@ fill-slots-spec =
     (tie.spec
     Inv-loop
     μ-loop
-    count-of-requires
-    loop-holds
-    same-length
-    returns
-    next-group-requires
-    store-slot-requires
-    size-requires
-    add-start
-    add-k
-    loop-less
-    loop-again
-    cast-t16
-    same-length-2
-    returns-2)
+    (λ c κs. search needs)
+    (λ c. search stored-none)
+    (λ c. search needs)
+    (λ c. search stored-full)
+    (λ c κs. search needs)
+    (λ c κs. search needs)
+    (λ c κs. search needs)
+    (λ c. search needs)
+    (λ c. search needs)
+    (λ c. search needs)
+    (λ c. search (stored-more, four))
+    (λ c. search needs)
+    (λ c. search needs)
+    (λ c. search stored-all))

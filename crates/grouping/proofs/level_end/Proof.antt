@@ -2,9 +2,10 @@
 use Prim.Native.Nat.{_-_, _≤_, _<_}
 use native.Mathlib.Omega.{arith}
 use lib.Seq.{slice}
+use borrow.Author.Needs.{needs}
 use Rattle.format.specs.Layout.{numbersIn}
 use Rattle.grouping.specs.Rule.{Level}
-use Rattle.grouping.proofs.Levels.{level-behind, level-next}
+use Rattle.grouping.proofs.Levels.{level-behind, level-turn}
 use Rattle.grouping.proofs.level_end.Statement.{statement}
 use Rattle.grouping.proofs.level_end.Tie as tie
 
@@ -14,52 +15,18 @@ Inv-loop numbers end level reach first i₀ i = (end < i) × (i ≤ reach) × Le
 abbrev μ-loop : tie.MeasureT-loop
 μ-loop numbers end level reach first i₀ i = reach - i
 
-number-at-requires : tie.Need-number-at-requires Inv-loop μ-loop
-number-at-requires c κs = omega arith
-
-behind-requires : tie.Need-behind-requires Inv-loop μ-loop
-behind-requires c κs = omega arith
-
-loop-holds : tie.Need-loop-holds Inv-loop μ-loop
-loop-holds c =
-    let start = c .before .before .before in
-    (omega arith, omega arith, rw (c .behind .ensures) (level-behind (numbersIn (start .args .numbers .now)) (start .args .end) (start .args .level) (omega arith) (omega arith) (start .pre .4)))
-
-number-at-requires-2 : tie.Need-number-at-requires-2 Inv-loop μ-loop
-number-at-requires-2 c κs = omega arith
-
-returns : tie.Need-returns Inv-loop μ-loop
-returns c =
-    let inv = c .before .before .before .loop .inv in
-    (inv .0, inv .1, inv .2, λ l e. absurd (omega (arith, e, c .if1 .taken, c .before .number-at2 .ensures, c .before .before .before .before .before .number-at .ensures)))
-
-add-i : tie.Need-add-i Inv-loop μ-loop
-add-i c = omega arith
-
-loop-less : tie.Need-loop-less Inv-loop μ-loop
-loop-less c = omega arith
-
-loop-again : tie.Need-loop-again Inv-loop μ-loop
-loop-again c =
-    let list = numbersIn (c .before .before .before .before .before .before .before .args .numbers .now) in
-    let inv = c .before .before .before .loop .inv in
-    (omega arith, omega arith, level-next list (c .before .before .before .before .before .before .before .args .end) (c .before .before .before .loop .i) (inv .0) (omega arith) (inv .2) (omega arith) (omega (arith, c .if1 .left, c .before .number-at2 .ensures, c .before .before .before .before .before .number-at .ensures)))
-
-returns-2 : tie.Need-returns-2 Inv-loop μ-loop
-returns-2 c = let inv = c .before .loop .inv in (inv .0, inv .1, inv .2, λ l e. absurd (omega arith))
-
 pub level-end-spec : {M : Type 1} → statement M
 level-end-spec =
     tie.close
     (tie.spec
     Inv-loop
     μ-loop
-    number-at-requires
-    behind-requires
-    loop-holds
-    number-at-requires-2
-    returns
-    add-i
-    loop-less
-    loop-again
-    returns-2)
+    (λ c κs. search needs)
+    (λ c κs. search needs)
+    (λ c. (omega arith, omega arith, level-behind _ _ _ (omega arith) (omega arith) (search needs) (c .behind .ensures)))
+    (λ c κs. search needs)
+    (λ c. (omega arith, omega arith, search needs, λ l e. absurd (omega arith)))
+    (λ c. search needs)
+    (λ c. search needs)
+    (λ c. (omega arith, omega arith, search level-turn))
+    (λ c. (omega arith, omega arith, search needs, λ l e. absurd (omega arith))))

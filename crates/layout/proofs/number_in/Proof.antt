@@ -2,21 +2,16 @@
 use mathlib.Core.Path.{_≡_}
 use Prim.Native.Nat.{_*_}
 use native.Mathlib.Omega.{arith}
+use Rattle.format.specs.Layout.{numberSize}
 use borrow.Author.Needs.{needs}
 use Rattle.layout.proofs.number_in.Statement.{statement}
 use Rattle.layout.proofs.number_in.Tie as tie
 
-mul-four-at : tie.Need-mul-four-at
-mul-four-at c = search needs
-
-four-at-requires : tie.Need-four-at-requires
-four-at-requires c κs = search needs
-
 returns : tie.Need-returns
 returns c =
     let k = c .before .before .args .k in
-    let e : k * 4 * 8 ≡ k * 32 = omega arith in
+    let e : k * numberSize * 8 ≡ k * 32 = omega arith in
     cc
 
 pub number-in-spec : {M : Type 1} → statement M
-number-in-spec = tie.close (tie.spec mul-four-at four-at-requires returns)
+number-in-spec = tie.close (tie.spec (λ c. search needs) (λ c κs. search needs) returns)

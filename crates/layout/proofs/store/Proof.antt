@@ -14,30 +14,6 @@ abbrev μ-loop : tie.MeasureT-loop
 loop-holds : tie.Need-loop-holds Inv-loop μ-loop
 loop-holds c = storing-start _ _ _ _
 
-sub-octet-in : tie.Need-sub-octet-in Inv-loop μ-loop
-sub-octet-in c = omega arith
-
-sub-octet-in-2 : tie.Need-sub-octet-in-2 Inv-loop μ-loop
-sub-octet-in-2 c = omega arith
-
-mul-octet-in : tie.Need-mul-octet-in Inv-loop μ-loop
-mul-octet-in c = omega arith
-
-octet-in-requires : tie.Need-octet-in-requires Inv-loop μ-loop
-octet-in-requires c κs = omega arith
-
-add-octets : tie.Need-add-octets Inv-loop μ-loop
-add-octets c = omega arith
-
-slice-write-octets : tie.Need-slice-write-octets Inv-loop μ-loop
-slice-write-octets c = omega arith
-
-add-i : tie.Need-add-i Inv-loop μ-loop
-add-i c = omega arith
-
-loop-less : tie.Need-loop-less Inv-loop μ-loop
-loop-less c = omega arith
-
 loop-again : tie.Need-loop-again Inv-loop μ-loop
 loop-again c = search storing-more
 
@@ -54,14 +30,14 @@ store-spec =
     Inv-loop
     μ-loop
     loop-holds
-    sub-octet-in
-    sub-octet-in-2
-    mul-octet-in
-    octet-in-requires
-    add-octets
-    slice-write-octets
-    add-i
-    loop-less
+    (λ c. omega arith)
+    (λ c. omega arith)
+    (λ c. omega arith)
+    (λ c κs. omega arith)
+    (λ c. omega arith)
+    (λ c. omega arith)
+    (λ c. omega arith)
+    (λ c. omega arith)
     loop-again
     same-length
     returns)

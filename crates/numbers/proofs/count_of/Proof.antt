@@ -4,8 +4,5 @@ use Rattle.laws.specs.Lists.{length-listed}
 use Rattle.numbers.proofs.count_of.Statement.{statement}
 use Rattle.numbers.proofs.count_of.Tie as tie
 
-returns : tie.Need-returns
-returns c = sym (length-listed _ _)
-
 pub count-of-spec : {M : Type 1} → statement M
-count-of-spec = tie.close (tie.spec returns)
+count-of-spec = tie.close (tie.spec (λ c. sym (length-listed _ _)))

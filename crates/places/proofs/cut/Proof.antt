@@ -5,12 +5,6 @@ use borrow.Author.Needs.{needs}
 use Rattle.places.proofs.cut.Statement.{statement}
 use Rattle.places.proofs.cut.Tie as tie
 
-shr-result : tie.Need-shr-result
-shr-result c = search needs
-
-power-requires : tie.Need-power-requires
-power-requires c κs = search needs
-
 rem-result : tie.Need-rem-result
 rem-result c = omega (arith, pow-pos (c .before .args .width))
 
@@ -18,4 +12,4 @@ returns : tie.Need-returns
 returns c = cc
 
 pub cut-spec : {M : Type 1} → statement M
-cut-spec = tie.close (tie.spec shr-result power-requires rem-result returns)
+cut-spec = tie.close (tie.spec (λ c. search needs) (λ c κs. search needs) rem-result returns)

@@ -5,11 +5,8 @@ use borrow.Author.Needs.{needs}
 use Rattle.places.proofs.power.Statement.{statement}
 use Rattle.places.proofs.power.Tie as tie
 
-shl-result : tie.Need-shl-result
-shl-result c = search needs
-
 returns : tie.Need-returns
 returns c = rw one-mul (mod-eq-of-lt (pow-lt (c .pre)))
 
 pub power-spec : {M : Type 1} → statement M
-power-spec = tie.close (tie.spec shl-result returns)
+power-spec = tie.close (tie.spec (λ c. search needs) returns)

@@ -6,9 +6,6 @@ use borrow.Author.Needs.{needs}
 use Rattle.run_length.proofs.greatest_code.Statement.{statement}
 use Rattle.run_length.proofs.greatest_code.Tie as tie
 
-power-requires : tie.Need-power-requires
-power-requires c κs = search needs
-
 sub-result : tie.Need-sub-result
 sub-result c = omega (arith, pow-pos (c .before .args .bits))
 
@@ -19,4 +16,4 @@ returns : tie.Need-returns
 returns c = omega (arith, pow-pos (c .before .args .bits), pow-mono {j = 15} (small c))
 
 pub greatest-code-spec : {M : Type 1} → statement M
-greatest-code-spec = tie.close (tie.spec power-requires sub-result returns)
+greatest-code-spec = tie.close (tie.spec (λ c κs. search needs) sub-result returns)

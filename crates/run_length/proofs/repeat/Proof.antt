@@ -14,20 +14,8 @@ abbrev μ-loop : tie.MeasureT-loop
 returns : tie.Need-returns Inv-loop μ-loop
 returns c = search repeating-none
 
-smaller-requires : tie.Need-smaller-requires Inv-loop μ-loop
-smaller-requires c κs = tt
-
 loop-holds : tie.Need-loop-holds Inv-loop μ-loop
 loop-holds c = repeating-start _ _ _ _
-
-store-level-requires : tie.Need-store-level-requires Inv-loop μ-loop
-store-level-requires c κs = omega arith
-
-add-k : tie.Need-add-k Inv-loop μ-loop
-add-k c = omega arith
-
-loop-less : tie.Need-loop-less Inv-loop μ-loop
-loop-less c = omega arith
 
 loop-again : tie.Need-loop-again Inv-loop μ-loop
 loop-again c = search repeating-more
@@ -45,11 +33,11 @@ repeat-spec =
     Inv-loop
     μ-loop
     returns
-    smaller-requires
+    (λ c κs. tt)
     loop-holds
-    store-level-requires
-    add-k
-    loop-less
+    (λ c κs. omega arith)
+    (λ c. omega arith)
+    (λ c. omega arith)
     loop-again
     same-length
     returns-2)

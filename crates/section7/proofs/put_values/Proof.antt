@@ -1,46 +1,23 @@
--- `section7::put_values` meets its contract: after k turns the values of k groups are put. Assumes nothing.
-use mathlib.Core.Path.{_≡_}
+-- `section7::put_values` meets its contract. After k turns the values of k groups are put. Assumes nothing.
 use Prim.Native.Nat.{_-_, _≤_}
 use native.Mathlib.Omega.{arith}
-use Rattle.format.specs.Lists.{joined}
-use Rattle.format.specs.Layout.{numbersIn, groupAt}
-use Rattle.writer.specs.Pen.{Moved}
-use Rattle.writer.proofs.Pens.{moved-none}
-use Rattle.section7.specs.Parts.{valueStringOf}
-use Rattle.section7.proofs.Values.{group-valued, group-ready, group-moved}
+use borrow.Author.Needs.{needs}
+use Rattle.format.specs.Lists.{total}
+use Rattle.format.specs.Layout.{numbersIn}
+use Rattle.format.specs.Packing.{valueString}
+use Rattle.laws.specs.Groups.{groupIn, groupsIn, ownGroups}
+use Rattle.writer.specs.Pen.{Ready, Moved}
+use Rattle.section7.specs.Parts.{groupBits}
+use Rattle.section7.proofs.Aligned.{fresh-ready}
+use Rattle.section7.proofs.Values.{group-valued, group-few, group-ready, group-moved, values-none, values-begun}
 use Rattle.section7.proofs.put_values.Statement.{statement}
 use Rattle.section7.proofs.put_values.Tie as tie
 
 abbrev Inv-loop : tie.InvT-loop
-Inv-loop numbers groups count payload₀ here₀ k₀ payload here k = (k ≤ count) × Moved here₀ (joined k (λ i. valueStringOf (numbersIn numbers) (groupAt groups i))) payload₀ payload here
+Inv-loop numbers groups count payload₀ here₀ k₀ payload here k = (k ≤ count) × Ready here₀ (total count (λ i. groupBits (groupIn groups i))) payload₀ × Moved here₀ (valueString (ownGroups (numbersIn numbers) (groupsIn groups k))) payload₀ payload here
 
 abbrev μ-loop : tie.MeasureT-loop
 μ-loop numbers groups count payload₀ here₀ k₀ payload here k = count - k
-
-loop-holds : tie.Need-loop-holds Inv-loop μ-loop
-unfolding joined
-loop-holds c = (omega arith, search moved-none)
-
-group-in-requires : tie.Need-group-in-requires Inv-loop μ-loop
-group-in-requires c κs = omega arith
-
-put-group-requires : tie.Need-put-group-requires Inv-loop μ-loop
-put-group-requires c κs = (search group-valued, search group-ready)
-
-add-k : tie.Need-add-k Inv-loop μ-loop
-add-k c = omega arith
-
-loop-less : tie.Need-loop-less Inv-loop μ-loop
-loop-less c = omega arith
-
-loop-again : tie.Need-loop-again Inv-loop μ-loop
-loop-again c = (omega arith, group-moved (c .before .before .before .before .before .before .before .before .before .before .pre .0) (c .before .before .before .before .before .before .loop .inv .1) (c .before .before .before .before .before .loop-test .taken) (c .before .before .before .before .group-in .ensures) (c .before .before .put-group .ensures))
-
-same-length : tie.Need-same-length Inv-loop μ-loop
-same-length c = c .before .loop .inv .1 .long
-
-returns : tie.Need-returns Inv-loop μ-loop
-returns c = let e : c .before .loop .k ≡ c .before .before .before .before .before .args .count = omega arith in rw e at (c .before .loop .inv .1)
 
 pub put-values-spec : {M : Type 1} → statement M
 put-values-spec =
@@ -48,11 +25,12 @@ put-values-spec =
     (tie.spec
     Inv-loop
     μ-loop
-    loop-holds
-    group-in-requires
-    put-group-requires
-    add-k
-    loop-less
-    loop-again
-    same-length
-    returns)
+    (λ c κs. search needs)
+    (λ c. (omega arith, search fresh-ready, search values-none))
+    (λ c κs. search needs)
+    (λ c κs. ((search group-valued, search group-few), search group-ready))
+    (λ c. search needs)
+    (λ c. search needs)
+    (λ c. (omega arith, search needs, search group-moved))
+    (λ c. search needs)
+    (λ c. values-begun (search needs) (c .before .before .pen-at .ensures) (search needs) (search needs) (search needs) (c .before .loop .inv .2) (λ k. omega (arith, c .before .before .before .slice-known .given k))))

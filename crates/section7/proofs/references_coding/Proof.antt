@@ -3,11 +3,9 @@ use borrow.Author.Needs.{needs}
 use Rattle.section7.proofs.references_coding.Statement.{statement}
 use Rattle.section7.proofs.references_coding.Tie as tie
 
-small-requires : tie.Need-small-requires
-small-requires c κs = search needs
-
-returns : tie.Need-returns
-returns c = rw (c .small .ensures .0)
-
 pub references-coding-spec : {M : Type 1} → statement M
-references-coding-spec = tie.close (tie.spec small-requires returns)
+references-coding-spec =
+    tie.close
+    (tie.spec
+    (λ c κs. search needs)
+    (λ c. rw (c .small .ensures .0)))

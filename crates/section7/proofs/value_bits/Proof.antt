@@ -1,16 +1,18 @@
--- `section7::value_bits` meets its contract: a group has at most 4194304 values of 32 bits. Assumes nothing.
+-- `section7::value_bits` meets its contract. A group has no more values than the limit, of 32 bits at most. Assumes nothing.
 use mathlib.Core.Path.{_≡_, refl}
 use Prim.Native.Nat.{_-_, _*_, _≤_}
 use native.Mathlib.Omega.{arith}
+use borrow.Author.Needs.{needs}
 use Rattle.format.specs.Lists.{total}
-use Rattle.format.specs.Layout.{groupAt}
-use Rattle.section7.specs.Parts.{valueBits}
-use Rattle.section7.proofs.Values.{bits-group, bits-next}
+use Rattle.format.specs.Refusals.{limit}
+use Rattle.laws.specs.Groups.{groupIn}
+use Rattle.section7.specs.Parts.{groupBits}
+use Rattle.section7.proofs.Values.{bits-group, bits-next, bits-all}
 use Rattle.section7.proofs.value_bits.Statement.{statement}
 use Rattle.section7.proofs.value_bits.Tie as tie
 
 abbrev Inv-loop : tie.InvT-loop
-Inv-loop groups count bits₀ k₀ bits k = (k ≤ count) × (bits ≡ total k (λ i. valueBits (groupAt groups i))) × (bits ≤ k * 134217728)
+Inv-loop groups count bits₀ k₀ bits k = (k ≤ count) × (bits ≡ total k (λ i. groupBits (groupIn groups i))) × (bits ≤ k * (limit * 32))
 
 abbrev μ-loop : tie.MeasureT-loop
 μ-loop groups count bits₀ k₀ bits k = count - k
@@ -19,35 +21,6 @@ loop-holds : tie.Need-loop-holds Inv-loop μ-loop
 unfolding total
 loop-holds c = (omega arith, refl, omega arith)
 
-group-in-requires : tie.Need-group-in-requires Inv-loop μ-loop
-group-in-requires c κs = omega arith
-
-size-requires : tie.Need-size-requires Inv-loop μ-loop
-size-requires c κs = tt
-
-size-requires-2 : tie.Need-size-requires-2 Inv-loop μ-loop
-size-requires-2 c κs = tt
-
-times-requires : tie.Need-times-requires Inv-loop μ-loop
-times-requires c κs = let g = bits-group (c .before .before .before .before .before .before .pre) (c .before .before .before .loop-test .taken) (c .before .before .group-in .ensures) in (omega (arith, g), omega (arith, g))
-
-add-bits : tie.Need-add-bits Inv-loop μ-loop
-add-bits c = omega (arith, bits-group (c .before .before .before .before .before .before .before .pre) (c .before .before .before .before .loop-test .taken) (c .before .before .before .group-in .ensures))
-
-add-k : tie.Need-add-k Inv-loop μ-loop
-add-k c = omega arith
-
-loop-less : tie.Need-loop-less Inv-loop μ-loop
-loop-less c = omega arith
-
-loop-again : tie.Need-loop-again Inv-loop μ-loop
-loop-again c = (omega arith, bits-next (c .before .before .before .before .before .before .before .pre) (c .before .before .before .before .loop-test .taken) (c .before .before .before .group-in .ensures) (c .before .before .before .before .before .loop .inv .1) (c .before .before .size .ensures) (c .before .size2 .ensures) (c .times .ensures), omega (arith, bits-group (c .before .before .before .before .before .before .before .pre) (c .before .before .before .before .loop-test .taken) (c .before .before .before .group-in .ensures)))
-
-returns : tie.Need-returns Inv-loop μ-loop
-returns c =
-    let e : c .before .loop .k ≡ c .before .before .before .args .count = omega arith in
-    (rw e at (c .before .loop .inv .1), omega arith)
-
 pub value-bits-spec : {M : Type 1} → statement M
 value-bits-spec =
     tie.close
@@ -55,12 +28,10 @@ value-bits-spec =
     Inv-loop
     μ-loop
     loop-holds
-    group-in-requires
-    size-requires
-    size-requires-2
-    times-requires
-    add-bits
-    add-k
-    loop-less
-    loop-again
-    returns)
+    (λ c κs. search needs)
+    (λ c κs. search bits-group)
+    (λ c. search needs)
+    (λ c. search needs)
+    (λ c. search needs)
+    (λ c. (omega arith, bits-next _ _ (search needs) (c .before .group-in .ensures) (c .bits-of .ensures .0), omega arith))
+    (λ c. (bits-all _ (c .before .loop .k) (search needs) (search needs) (search needs), omega arith)))

@@ -18,9 +18,6 @@ returns-2 : tie.Need-returns-2
 unfolding readField
 returns-2 c = decides _ Width _ _ (omega (arith, tests))
 
-span-requires : tie.Need-span-requires
-span-requires c κs = search needs
-
 returns-3 : tie.Need-returns-3
 unfolding readField
 returns-3 c = decides _ Short _ _ (omega (arith, tests))
@@ -28,12 +25,6 @@ returns-3 c = decides _ Short _ _ (omega (arith, tests))
 returns-4 : tie.Need-returns-4
 unfolding readField
 returns-4 c = decides _ Room _ _ (omega (arith, tests))
-
-fill-requires : tie.Need-fill-requires
-fill-requires c κs = search needs
-
-same-length : tie.Need-same-length
-same-length c = search needs
 
 returns-5 : tie.Need-returns-5
 unfolding readField
@@ -45,9 +36,9 @@ read-field-spec =
     (tie.spec
     returns
     returns-2
-    span-requires
+    (λ c κs. search needs)
     returns-3
     returns-4
-    fill-requires
-    same-length
+    (λ c κs. search needs)
+    (λ c. search needs)
     returns-5)

@@ -15,23 +15,11 @@ Inv-loop numbers width limit k₀ k = (k ≤ length numbers) × (anyOf (leb (2 ^
 abbrev μ-loop : tie.MeasureT-loop
 μ-loop numbers width limit k₀ k = length numbers - k
 
-power-requires : tie.Need-power-requires Inv-loop μ-loop
-power-requires c κs = omega arith
-
 loop-holds : tie.Need-loop-holds Inv-loop μ-loop
 loop-holds c = (omega arith, refl)
 
-number-at-requires : tie.Need-number-at-requires Inv-loop μ-loop
-number-at-requires c κs = omega arith
-
 returns : tie.Need-returns Inv-loop μ-loop
 returns c = search large-here
-
-add-k : tie.Need-add-k Inv-loop μ-loop
-add-k c = omega arith
-
-loop-less : tie.Need-loop-less Inv-loop μ-loop
-loop-less c = omega arith
 
 loop-again : tie.Need-loop-again Inv-loop μ-loop
 loop-again c = (omega arith, search large-later)
@@ -45,11 +33,11 @@ any-too-large-spec =
     (tie.spec
     Inv-loop
     μ-loop
-    power-requires
+    (λ c κs. omega arith)
     loop-holds
-    number-at-requires
+    (λ c κs. omega arith)
     returns
-    add-k
-    loop-less
+    (λ c. omega arith)
+    (λ c. omega arith)
     loop-again
     returns-2)

@@ -5,20 +5,8 @@ use borrow.Author.Needs.{needs}
 use Rattle.writer.proofs.finish.Statement.{statement}
 use Rattle.writer.proofs.finish.Tie as tie
 
-sub-shifted : tie.Need-sub-shifted
-sub-shifted c = search needs
-
 shifted-requires : tie.Need-shifted-requires
 shifted-requires c κs = (search ready-small, omega arith)
-
-octet-in-requires : tie.Need-octet-in-requires
-octet-in-requires c κs = search needs
-
-slice-write-octets : tie.Need-slice-write-octets
-slice-write-octets c = search needs
-
-same-length : tie.Need-same-length
-same-length c = search needs
 
 returns : tie.Need-returns
 returns c = λ string lent h. held-last h (omega arith) (omega arith) (omega arith) (cc)
@@ -30,10 +18,10 @@ pub finish-spec : {M : Type 1} → statement M
 finish-spec =
     tie.close
     (tie.spec
-    sub-shifted
+    (λ c. search needs)
     shifted-requires
-    octet-in-requires
-    slice-write-octets
-    same-length
+    (λ c κs. search needs)
+    (λ c. search needs)
+    (λ c. search needs)
     returns
     returns-2)

@@ -21,26 +21,8 @@ below c = omega arith
 add-number : tie.Need-add-number Inv-loop μ-loop
 add-number c = omega (arith, pow-mono {j = 32} (below c))
 
-add-pending : tie.Need-add-pending Inv-loop μ-loop
-add-pending c = omega arith
-
 loop-holds : tie.Need-loop-holds Inv-loop μ-loop
 loop-holds c = search emitting-start
-
-octet-in-requires : tie.Need-octet-in-requires Inv-loop μ-loop
-octet-in-requires c κs = omega arith
-
-slice-write-octets : tie.Need-slice-write-octets Inv-loop μ-loop
-slice-write-octets c = omega arith
-
-cut-requires : tie.Need-cut-requires Inv-loop μ-loop
-cut-requires c κs = omega arith
-
-add-at : tie.Need-add-at Inv-loop μ-loop
-add-at c = omega arith
-
-loop-less : tie.Need-loop-less Inv-loop μ-loop
-loop-less c = omega arith
 
 loop-again : tie.Need-loop-again Inv-loop μ-loop
 loop-again c = search emitting-more
@@ -59,13 +41,13 @@ put-spec =
     μ-loop
     shifted-requires
     add-number
-    add-pending
+    (λ c. omega arith)
     loop-holds
-    octet-in-requires
-    slice-write-octets
-    cut-requires
-    add-at
-    loop-less
+    (λ c κs. omega arith)
+    (λ c. omega arith)
+    (λ c κs. omega arith)
+    (λ c. omega arith)
+    (λ c. omega arith)
     loop-again
     same-length
     returns)

@@ -7,9 +7,6 @@ use borrow.Author.Needs.{needs}
 use Rattle.writer.proofs.shifted.Statement.{statement}
 use Rattle.writer.proofs.shifted.Tie as tie
 
-power-requires : tie.Need-power-requires
-power-requires c κs = search needs
-
 bound : (c : tie.After-power) → c .before .args .number * c .power .result ≤ 255 * 2 ^ 32
 bound c = product (c .before .args .number) (c .power .result) 255 (2 ^ 32) (omega arith) (rw (c .power .ensures) (pow-mono {j = 32} (omega arith)))
 
@@ -20,4 +17,4 @@ returns : tie.Need-returns
 returns c = (cc, bound c)
 
 pub shifted-spec : {M : Type 1} → statement M
-shifted-spec = tie.close (tie.spec power-requires mul-result returns)
+shifted-spec = tie.close (tie.spec (λ c κs. search needs) mul-result returns)

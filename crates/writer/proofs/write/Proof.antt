@@ -8,23 +8,11 @@ use Rattle.writer.proofs.write.Tie as tie
 slice-read-wide : tie.Need-slice-read-wide
 slice-read-wide c = job-room (c .before .before .before .pre)
 
-wide-requires : tie.Need-wide-requires
-wide-requires c κs = search needs
-
-sub-cut : tie.Need-sub-cut
-sub-cut c = search needs
-
-cut-requires : tie.Need-cut-requires
-cut-requires c κs = search needs
-
 put-all-requires : tie.Need-put-all-requires
 put-all-requires c κs = (search job-ready, (omega arith, search needs))
 
 finish-requires : tie.Need-finish-requires
 finish-requires c κs = search job-finish
-
-same-length : tie.Need-same-length
-same-length c = search needs
 
 returns : tie.Need-returns
 returns c = search job-done
@@ -34,10 +22,10 @@ write-spec =
     tie.close
     (tie.spec
     slice-read-wide
-    wide-requires
-    sub-cut
-    cut-requires
+    (λ c κs. search needs)
+    (λ c. search needs)
+    (λ c κs. search needs)
     put-all-requires
     finish-requires
-    same-length
+    (λ c. search needs)
     returns)

@@ -1,0 +1,102 @@
+-- The walk over all groups decides 8, and 7 for the values. Assumes nothing.
+use mathlib.Core.Path.{_≡_, refl, sym, ap, ap₂, _∙_}
+use mathlib.Core.Bool.{Bool, true, false, and-false, or-true}
+use Prim.Native.Nat.{ℕ, suc, _+_, _^_, _≤_, _<_}
+use native.Mathlib.Omega.{arith}
+use lib.ListN.{length, getD, drop}
+use borrow.Author.Tests.{lt-ltb, le-ltb}
+use Rattle.format.specs.Lists.{listed, anyOf}
+use Rattle.format.specs.Refusals.{first}
+use Rattle.format.specs.Unpacking.{Codes, groupWidth, groupLength, bitsBefore, wrongGroup, placesOf, groupRefusals, locatedBy}
+use Rattle.format.specs.declared.Template.{Template}
+use Rattle.format.specs.declared.Places.{Places}
+use Rattle.format.specs.declared.Located.{Located}
+use Rattle.format.specs.declared.Located.the-variants as located
+use Rattle.format.specs.declared.Refusal.the-variants.{GroupSize, Short}
+use Rattle.laws.specs.First.{decides, clears, tests}
+use Rattle.laws.specs.Lists.{length-listed, getD-listed, any-here, any-later, any-end}
+use Rattle.groups.specs.declared.Walk.{Walk}
+use Rattle.groups.specs.Walk.{Walking, atFirst, Further}
+use Rattle.groups.proofs.Walking.{walking-start, walking-step}
+
+-- ---- which group is wrong
+
+module _ (t : Template) (codes : Codes) (g : ℕ) where
+  too-wide : 31 < groupWidth t codes g → wrongGroup t codes g ≡ true
+  unfolding wrongGroup
+  too-wide h = simp (lt-ltb 31 (groupWidth t codes g) h)
+
+  too-long : g + 1 < t .groups → 4294967295 < groupLength t codes g → wrongGroup t codes g ≡ true
+  unfolding wrongGroup
+  too-long l h = simp (lt-ltb (suc g) (t .groups) (omega arith), lt-ltb 4294967295 (groupLength t codes g) h, or-true)
+
+  neither : groupWidth t codes g ≤ 31 → groupLength t codes g ≤ 4294967295 → wrongGroup t codes g ≡ false
+  unfolding wrongGroup
+  neither h l = simp (le-ltb 31 (groupWidth t codes g) h, le-ltb 4294967295 (groupLength t codes g) l, and-false)
+
+-- whether one of the groups from g on is wrong
+abbrev wrongFrom : Template → Codes → ℕ → Bool
+wrongFrom t codes g = anyOf (wrongGroup t codes) (drop g (listed (t .groups) (λ k. k)))
+
+-- ---- the walk
+
+-- none of the groups that are walked is wrong: those left decide
+pub record Walked (t : Template) (codes : Codes) (walk : Walk) : Type 0 where
+  pub walking : Walking t codes walk
+  pub right : wrongFrom t codes 0 ≡ wrongFrom t codes (walk .group)
+
+pub walked-start : (t : Template) (codes : Codes) → Walked t codes atFirst
+walked-start t codes = record { walking = walking-start; right = refl }
+
+module _ {t : Template} {codes : Codes} {walk : Walk} {n : ℕ} (w : Walked t codes walk) (en : (n ≡ t .groups) × (n < 2 ^ 32)) where
+  abbrev answer : ℕ → ℕ → Located
+  answer start octets = locatedBy (groupRefusals start t octets codes) start t codes
+
+  module _ (l : walk .group < n) where
+    here : (b : Bool) → wrongGroup t codes (walk .group) ≡ b → wrongGroup t codes (getD (listed (t .groups) (λ k. k)) (walk .group) 0) ≡ b
+    here b e = rw (getD-listed (t .groups) (λ k. k) 0 (walk .group) (omega arith)) e
+
+    among : walk .group < length (listed (t .groups) (λ (k : ℕ). k))
+    among = omega (arith, length-listed (t .groups) (λ (k : ℕ). k))
+
+    wrong : (start octets : ℕ) → wrongGroup t codes (walk .group) ≡ true → located.Refused GroupSize ≡ answer start octets
+    unfolding first
+    wrong start octets e = rw (any-here (wrongGroup t codes) (listed (t .groups) (λ k. k)) 0 (walk .group) among (here true e))
+
+    module _ {width : ℕ} (ew : width ≡ groupWidth t codes (walk .group)) where
+      pub walked-wide : (start octets : ℕ) → 31 < width → located.Refused GroupSize ≡ answer start octets
+      walked-wide start octets m = wrong start octets (too-wide t codes (walk .group) (omega arith))
+
+      module _ {length : ℕ} (el : length ≡ groupLength t codes (walk .group)) where
+        pub walked-more : {next : Walk} → width ≤ 31 → length ≤ 4294967295 → Further walk width length next → Walked t codes next
+        walked-more mw ml e = record {
+          walking = walking-step (w .walking) (omega arith) ew el mw ml e;
+          right =
+              w .right ∙ any-later (wrongGroup t codes) (listed (t .groups) (λ k. k)) 0 (walk .group) among (here false (neither t codes (walk .group) (omega arith) (omega arith)))
+              ∙ ap (wrongFrom t codes) (sym (e .group));
+        }
+
+    -- the last length is none that is too long
+    pub walked-long : (start octets : ℕ) {length : ℕ} → (length ≡ groupLength t codes (walk .group)) × (t .groups ≤ walk .group + 1 → length ≤ 4294967295) → 4294967295 < length → located.Refused GroupSize ≡ answer start octets
+    walked-long start octets {length} e m =
+        let last : (t .groups ≤ walk .group + 1 → ⊥) = λ z. omega (arith, e .1 z) in
+        wrong start octets (too-long t codes (walk .group) (omega arith) (omega arith))
+
+  module _ (start octets : ℕ) (m : n ≤ walk .group) {p : Places} (ep : p ≡ placesOf start t (walk .bits)) where
+    done : walk .group ≡ t .groups
+    done = omega (arith, w .walking .some)
+
+    none : wrongFrom t codes 0 ≡ false
+    none = w .right ∙ any-end (wrongGroup t codes) (listed (t .groups) (λ k. k)) (walk .group) (omega (arith, length-listed (t .groups) (λ (k : ℕ). k)))
+
+    places-are : p ≡ placesOf start t (bitsBefore t codes (t .groups))
+    places-are = ep ∙ ap (placesOf start t) (w .walking .size ∙ rw done)
+
+    end-is : p .end .0 ≡ placesOf start t (bitsBefore t codes (t .groups)) .end .0
+    end-is = ap (λ (q : Places). q .end .0) places-are
+
+    pub walked-short : octets < p .end .0 → located.Refused Short ≡ answer start octets
+    walked-short l = decides located.Refused Short (groupRefusals start t octets codes) _ (omega (arith, tests, none, end-is))
+
+    pub walked-at : p .end .0 ≤ octets → located.At p (walk .points) ≡ answer start octets
+    walked-at l = ap₂ located.At places-are (w .walking .count ∙ rw done) ∙ clears located.Refused (groupRefusals start t octets codes) _ (omega (arith, tests, none, end-is))
