@@ -40,6 +40,10 @@ unfolding flag
 flag-fails true h = absurd (omega arith)
 flag-fails false h = refl
 
+-- listed besides, it has `omega` read an equation of two tests
+pub flag-same : (t u : Bool) → t ≡ u → flag t ≡ flag u
+flag-same t u e = ap flag e
+
 pub ruleset tests = (
   le-ltb,
   ne-eqb,

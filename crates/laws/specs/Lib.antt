@@ -1,6 +1,5 @@
 pub mod Only
 pub mod First
-pub mod Flags
 pub mod Lists
 pub mod Bits
 pub mod Strings

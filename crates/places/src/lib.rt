@@ -2,7 +2,6 @@
 ghost use mathlib.Core.Path.{_≡_};
 ghost use Prim.Native.Nat.{_*_, _<_, _≤_, _^_, _/_, _%_};
 ghost use Rattle.format.specs.Bits.{roundedUp, spanOf};
-ghost use Rattle.format.specs.Template.{valuesAt};
 ghost use Rattle.format.specs.Unpacking.{placesOf};
 ghost use Rattle.format.specs.Grouping.{bits};
 ghost use Rattle.laws.specs.Accepting.{Passing};
@@ -75,7 +74,7 @@ fn field(groups: u32, width: u8) -> usize
 // bits.
 pub fn parts_of(template: Template, start: usize, bits: usize) -> Places
     requires { ⌜ Passing template × (start ≤ 12) × (bits < 2 ^ 63) ⌝ }
-    ensures { λ r. ⌜ (r ≡ placesOf start template bits) × (valuesAt start template < 2 ^ 42) ⌝ }
+    ensures { λ r. ⌜ r ≡ placesOf start template bits ⌝ }
 {
     let widths = start + field(template.groups, template.width);
     let lengths = widths + field(template.groups, template.widths.bits);

@@ -1,5 +1,4 @@
 -- `places::parts_of` meets its contract. Assumes nothing.
-use native.Mathlib.Omega.{arith}
 use Rattle.format.specs.Template.{widthsAt, lengthsAt, valuesAt}
 use Rattle.format.specs.Unpacking.{placesOf}
 use borrow.Author.Needs.{needs}
@@ -8,7 +7,7 @@ use Rattle.places.proofs.parts_of.Tie as tie
 
 returns : tie.Need-returns
 unfolding placesOf widthsAt lengthsAt valuesAt
-returns c = (cc, omega arith)
+returns c = cc
 
 pub parts-of-spec : {M : Type 1} → statement M
 parts-of-spec =

@@ -2,8 +2,7 @@
 use Rattle.format.specs.RunLength.{runLength}
 use Rattle.format.specs.declared.Refusal.the-variants.{Width, Repeat, Points, Room}
 use Rattle.run_length.proofs.Passes.{refused-behind, stored-behind, unrolling-none, unrolling-all}
-use Rattle.laws.specs.Flags.{flag-same}
-use Rattle.laws.specs.First.{decides, tests}
+use Rattle.laws.specs.First.{decides, tests, flag-same}
 use native.Mathlib.Omega.{arith}
 use borrow.Author.Needs.{needs}
 use Rattle.run_length.proofs.run_length.Statement.{statement}

@@ -2,8 +2,7 @@
 use borrow.Author.Needs.{needs}
 use Rattle.format.specs.Bits.{writeField}
 use Rattle.format.specs.declared.Refusal.the-variants.{Width, Numbers, Room}
-use Rattle.laws.specs.First.{decides, tests}
-use Rattle.laws.specs.Flags.{flag-same}
+use Rattle.laws.specs.First.{decides, tests, flag-same}
 use Rattle.writer.proofs.Jobs.{field-written, field-empty}
 use native.Mathlib.Omega.{arith}
 use Rattle.writer.proofs.write_field.Statement.{statement}
