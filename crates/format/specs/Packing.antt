@@ -140,14 +140,14 @@ pub record LeftPacked : Type 0 where
 unfoldable pub packBy : ℕ → ℕ → List ℕ → List ℕ → List ℕ → List ℕ → LeftPacked
 packBy added k numbers groups payload summary =
     let p = packingOf numbers (groupsOf widthOf added k numbers) in
-    let listed = groupsLent groupOctets groupSize (p .records) groups .buffer in
+    let stored = groupsLent groupOctets groupSize (p .records) groups .buffer in
     first (λ r. record { answer = packed.Refused r; groups = groups; payload = payload; summary = summary })
     (numberRefusals k numbers ++ (ltb (length summary) summarySize gives Room ∷ []))
-    (first (λ r. record { answer = packed.Refused r; groups = listed; payload = payload; summary = summary })
+    (first (λ r. record { answer = packed.Refused r; groups = stored; payload = payload; summary = summary })
     (roomRefusals groupSize groups (length (p .records)) ++ (ltb (length payload) (length (p .payload)) gives Room ∷ []))
     (record {
       answer = packed.Payload (p .template) (record { 0 = length (p .payload) });
-      groups = listed;
+      groups = stored;
       payload = p .payload over payload;
       summary = inFours (summaryNumbers (p .template) (length (p .records)) (length (p .payload))) over summary;
     }))
