@@ -35,7 +35,8 @@ compare:
 	@cd oracle && $(CARGO) run --bin compare
 
 # Hostile input, in minutes: a million damaged copies of good inputs through each C call, with guard octets about every
-# buffer; then fewer, in blocks of their own size, under valgrind, where it is there. A few thousand are part of `host`.
+# buffer; then fewer, in blocks of their own size, under valgrind, where it is there; and 10,000 damaged GRIB2 files through
+# the command. A few thousand are part of `host`.
 MEMCHECK := ["valgrind", "--quiet", "--error-exitcode=1", "--redzone-size=256"]
 hostile:
 	@cd host && $(CARGO) test --release --test hostile -- --ignored --exact --nocapture a_million_of_each
@@ -46,6 +47,7 @@ hostile:
 	else \
 		echo "Not run under valgrind: it is not installed."; \
 	fi
+	@cd host && $(CARGO) test --release --test desk -- --ignored --exact chance::ten_thousand_damaged_files
 
 # The live comparison at scale, in minutes: millions of inputs for each operation, and the tables of docs/DIFFERENCES.md.
 oracle:

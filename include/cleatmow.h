@@ -18,6 +18,12 @@
 #ifndef CLEATMOW_H
 #define CLEATMOW_H
 
+/* The version of the calls and of this header. */
+#define CLEATMOW_VERSION "0.2.0"
+#define CLEATMOW_VERSION_MAJOR 0
+#define CLEATMOW_VERSION_MINOR 2
+#define CLEATMOW_VERSION_PATCH 0
+
 #include <stddef.h>
 #include <stdint.h>
 
@@ -35,8 +41,7 @@ enum cleatmow_refusal {
     CLEATMOW_REFUSAL_ORDER = 3,
     /* descriptor octets not 1 to 4 */
     CLEATMOW_REFUSAL_DESCRIPTORS = 4,
-    /* number width above 31, width or length bits above 32; run-length b not 1 to 15 or M above 2^b - 1; bit field
-       width outside its range or starting bit above 7 */
+    /* number width above 31, width or length bits above 32; run-length b not 1 to 15 or M above 2^b - 1 */
     CLEATMOW_REFUSAL_WIDTH = 5,
     /* group count 0 or above 4,194,304 */
     CLEATMOW_REFUSAL_GROUP_COUNT = 6,
@@ -52,8 +57,7 @@ enum cleatmow_refusal {
     CLEATMOW_REFUSAL_REPEAT = 11,
     /* a restored number is beyond 2^60 either way */
     CLEATMOW_REFUSAL_BEYOND = 12,
-    /* packing: list empty or above 4,194,304 numbers, a number above 2,147,483,647, lookahead outside 1 to 65,535; bit
-       writer: a number does not fit */
+    /* packing: list empty or above 4,194,304 numbers, a number above 2,147,483,647, lookahead outside 1 to 65,535 */
     CLEATMOW_REFUSAL_NUMBERS = 13
 };
 

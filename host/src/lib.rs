@@ -68,8 +68,25 @@
 //! # Ok::<(), cleatmow::Refusal>(())
 //! ```
 //!
-//! [`Section5`] reads and writes Section 5 itself: it hands the template numbers over and judges none of them. `desk`,
-//! the command of this crate, works on maps as their two sections; `desk --help` says how.
+//! A call that ends with `_into` fills octets that its caller keeps, and answers a view over what it filled. No list is
+//! made, and nothing past the answer can be taken for a part of it:
+//!
+//! ```
+//! use cleatmow::{numbers_of_points, pack, unpack_complex_into, Point, POINT_OCTETS};
+//!
+//! let mut kept = vec![0; 1_000 * POINT_OCTETS];
+//! let packing = pack(&[5, 6, 5, 7], 4)?;
+//! let points = unpack_complex_into(&packing.template, 4, &packing.payload, &mut kept)?;
+//! assert_eq!((points.len(), points.get(3), points.get(4)), (4, Some(Point::Number(7)), None));
+//! // To pack them again, or to reckon with them, is to be told of a missing point: none is left out, none becomes 0.
+//! assert_eq!(numbers_of_points(points)?, [5, 6, 5, 7]);
+//! assert_eq!(points.numbers()?.sum::<i64>(), 23);
+//! # Ok::<(), Box<dyn std::error::Error>>(())
+//! ```
+//!
+//! [`Section5`] reads and writes Section 5 itself: it hands the template numbers over and judges none of them.
+//! [`payload_of`] takes the header off a Section 7, and [`grib2`] finds both sections in a GRIB2 file. `desk`, the command
+//! of this crate, works on such files and sections; `desk --help` says how.
 //!
 //! The build of this crate runs `rt staticlib cleatmow` in the folder above and links the archive; `rt`, the Rattle
 //! toolchain, must be on the PATH. `CLEATMOW_ARCHIVE_DIR` names a folder that has `libcleatmow.a` already, and nothing
@@ -79,25 +96,36 @@
 
 #[allow(unsafe_code)]
 mod ffi;
-#[doc(hidden)]
-pub mod maps;
+mod filled;
+pub mod grib2;
 mod packing;
+mod points;
 mod refusal;
 mod run_length;
+mod section;
 mod section5;
+mod section7;
 mod unpacking;
 
+pub use filled::{Filled, FilledIter, InOctets};
 pub use packing::{
-    groups_in, numbers_as_octets, numbers_of_points, pack, pack_into, Group, NoNumberToPack, Packing, Summary,
-    GREATEST_LOOKAHEAD, GREATEST_NUMBER, GROUP_OCTETS, MOST_NUMBERS, NUMBER_OCTETS, SUMMARY_OCTETS,
+    numbers_as_octets, numbers_of_points, pack, pack_into, Group, Groups, Packed, Packing, GREATEST_LOOKAHEAD,
+    GREATEST_NUMBER, GROUP_OCTETS, MOST_NUMBERS, NUMBER_OCTETS, SUMMARY_OCTETS,
 };
+pub use points::{NoNumber, Point, Points, POINT_OCTETS};
 pub use refusal::Refusal;
-pub use run_length::{run_length, run_length_into, LEVEL_OCTETS};
-pub use section5::{NotSection5, Physical, Section5, TemplateNumbers};
+pub use run_length::{run_length, run_length_into, Levels, LEVEL_OCTETS};
+pub use section::NotSection;
+pub use section5::{Physical, Section5, TemplateNumbers};
+pub use section7::{payload_of, section7_of};
 pub use unpacking::{
-    points_in, unpack_complex, unpack_complex_into, unpack_spatial, unpack_spatial_into, Differences, Point, Template,
-    POINT_OCTETS,
+    lent_points, unpack_complex, unpack_complex_into, unpack_spatial, unpack_spatial_into, Differences, Template,
 };
+
+/// The README's program in Rust is a documentation test.
+#[cfg(doctest)]
+#[doc = include_str!("../../README.md")]
+struct Readme;
 
 /// The greatest declared count. No call needs a buffer with room for more.
 pub const MOST_POINTS: u32 = 4_194_304;

@@ -1,8 +1,8 @@
 //! Grouping and packing: a list of numbers becomes the payload of template 5.2.
 
-use crate::{ffi, points_in, Point, Refusal, Template, POINT_OCTETS};
-use std::error::Error;
-use std::fmt;
+use crate::filled::One;
+use crate::{ffi, Filled, InOctets, NoNumber, Point, Refusal, Template};
+use std::borrow::Borrow;
 
 /// The greatest count of numbers that a list to pack has.
 pub const MOST_NUMBERS: u32 = 4_194_304;
@@ -60,38 +60,51 @@ pub struct Group {
     pub width: u32,
 }
 
-/// What a packing on lent buffers says of itself.
-#[derive(Clone, Copy, Debug, PartialEq, Eq)]
-pub struct Summary {
-    /// The template numbers, those that are the same in every packing too.
-    pub template: Template,
-    /// How many groups stand at the front of the lent group list.
-    pub group_count: u32,
-    /// How many octets the payload has at the front of what was lent for it.
-    pub payload_length: u32,
+impl InOctets for Group {
+    const OCTETS: usize = GROUP_OCTETS;
+
+    #[inline]
+    fn from_octets(octets: One) -> Group {
+        let mut numbers = numbers_in(octets.0);
+        let mut next = || numbers.next().expect("four numbers");
+        Group { start: next(), length: next(), least: next(), width: next() }
+    }
 }
 
-impl Summary {
-    fn from_octets(octets: &[u8]) -> Summary {
-        let mut numbers = numbers_in(octets);
+/// The groups of a packing, in the octets that [`pack_into`] filled.
+pub type Groups<'a> = Filled<'a, Group>;
+
+/// A list of numbers, packed in octets that the caller lent.
+#[derive(Clone, Copy, Debug, PartialEq, Eq)]
+pub struct Packed<'a> {
+    /// The template numbers, those that are the same in every packing too.
+    pub template: Template,
+    /// The groups, in the order of the list.
+    pub groups: Groups<'a>,
+    /// The octets of Section 7 after its five-octet header.
+    pub payload: &'a [u8],
+}
+
+impl<'a> Packed<'a> {
+    /// What the summary says of the two other lent buffers.
+    fn new(summary: &[u8], groups: &'a [u8], payload: &'a [u8]) -> Packed<'a> {
+        let mut numbers = numbers_in(summary);
         let mut next = || numbers.next().expect("ten numbers");
         let octet = |number| u8::try_from(number).expect("a template number of one octet");
-        Summary {
-            template: Template {
-                number_width: octet(next()),
-                splitting: Packing::SPLITTING,
-                missing: Packing::MISSING,
-                groups: next(),
-                width_reference: octet(next()),
-                width_bits: octet(next()),
-                length_reference: next(),
-                length_increment: octet(next()),
-                last_length: next(),
-                length_bits: octet(next()),
-            },
-            group_count: next(),
-            payload_length: next(),
-        }
+        let template = Template {
+            number_width: octet(next()),
+            splitting: Packing::SPLITTING,
+            missing: Packing::MISSING,
+            groups: next(),
+            width_reference: octet(next()),
+            width_bits: octet(next()),
+            length_reference: next(),
+            length_increment: octet(next()),
+            last_length: next(),
+            length_bits: octet(next()),
+        };
+        let groups = Filled::front(groups, next() as usize);
+        Packed { template, groups, payload: &payload[..next() as usize] }
     }
 }
 
@@ -113,11 +126,8 @@ pub fn pack(numbers: &[u32], lookahead: u32) -> Result<Packing, Refusal> {
     let mut payload = vec![0; most_payload(count)];
     let mut summary = [0; SUMMARY_OCTETS];
     let numbers = numbers_as_octets(numbers);
-    let summary = pack_into(lookahead, &numbers, &mut groups, &mut payload, &mut summary)?;
-    payload.truncate(summary.payload_length as usize);
-    payload.shrink_to_fit();
-    let groups = groups_in(&groups[..summary.group_count as usize * GROUP_OCTETS]).collect();
-    Ok(Packing { template: summary.template, groups, payload })
+    let packed = pack_into(lookahead, &numbers, &mut groups, &mut payload, &mut summary)?;
+    Ok(Packing { template: packed.template, groups: packed.groups.iter().collect(), payload: packed.payload.to_vec() })
 }
 
 /// Octets that hold the payload of so many numbers, whatever they are. It takes, in bits a number, at most:
@@ -136,10 +146,10 @@ fn most_payload(numbers: usize) -> usize {
 /// Groups a list of numbers and packs it, all in octets that the caller has and lends.
 ///
 /// `numbers` has [`NUMBER_OCTETS`] for each number ([`numbers_as_octets`] makes them). On success the groups stand at
-/// the front of `groups`, [`GROUP_OCTETS`] each ([`groups_in`] reads them), the payload at the front of `payload`, and
-/// the summary, which is also answered, in the first [`SUMMARY_OCTETS`] of `summary`; all octets past them are
-/// unchanged. A list of n numbers has at most n groups. Spare octets of `numbers` and `groups` that are short of a
-/// whole number or group are not used.
+/// the front of `groups`, [`GROUP_OCTETS`] each, the payload at the front of `payload`, and the summary in the first
+/// [`SUMMARY_OCTETS`] of `summary`; all octets past them are unchanged. The answer has what the summary says, and views
+/// of the groups and of the payload that end where these do. A list of n numbers has at most n groups. Spare octets of
+/// `numbers` and `groups` that are short of a whole number or group are not used.
 ///
 /// A refusal changes nothing, but for two: [`Refusal::Room`] for the group list leaves the first groups in all lent
 /// places, and [`Refusal::Room`] for the payload leaves all groups. The summary changes only on success. The other
@@ -149,15 +159,15 @@ fn most_payload(numbers: usize) -> usize {
 ///
 /// [`Refusal::Numbers`], and [`Refusal::Room`] for the summary, for the group list and for the payload, tested in this
 /// order.
-pub fn pack_into(
+pub fn pack_into<'a>(
     lookahead: u32,
     numbers: &[u8],
-    groups: &mut [u8],
-    payload: &mut [u8],
+    groups: &'a mut [u8],
+    payload: &'a mut [u8],
     summary: &mut [u8],
-) -> Result<Summary, Refusal> {
+) -> Result<Packed<'a>, Refusal> {
     Refusal::answered(ffi::pack(lookahead, numbers, groups, payload, summary))?;
-    Ok(Summary::from_octets(&summary[..SUMMARY_OCTETS]))
+    Ok(Packed::new(summary, groups, payload))
 }
 
 /// A list of numbers as [`pack_into`] is given it, [`NUMBER_OCTETS`] each.
@@ -169,71 +179,30 @@ pub fn numbers_as_octets(numbers: &[u32]) -> Vec<u8> {
     octets
 }
 
-/// A point that is no number to pack, and where it stands. `Display` has a sentence for the log.
-#[derive(Clone, Copy, Debug, PartialEq, Eq)]
-pub struct NoNumberToPack {
-    /// The place of the first such point. The first place is 0.
-    pub place: usize,
-    /// The point: a missing one, or a number that four octets do not hold.
-    pub point: Point,
-}
-
-impl fmt::Display for NoNumberToPack {
-    fn fmt(&self, f: &mut fmt::Formatter<'_>) -> fmt::Result {
-        let place = self.place;
-        match self.point {
-            Point::Number(number) => {
-                write!(
-                    f,
-                    "the point at place {place} holds {number}, which is not 0 to 4,294,967,295: no number to pack"
-                )
-            }
-            Point::Missing1 | Point::Missing2 => {
-                write!(f, "the point at place {place} is missing: there is no number to pack")
-            }
-        }
-    }
-}
-
-impl Error for NoNumberToPack {}
-
-/// The numbers of a map that stands in a lent buffer, [`POINT_OCTETS`] a point, as [`pack_into`] is given them,
-/// [`NUMBER_OCTETS`] each and in the same order.
+/// The numbers of points as packing takes them, in the same order. The points are a list, or the view of a call on lent
+/// octets.
 ///
-/// Every whole point of `points` is turned, and spare octets short of one are not, as in [`points_in`]. No point is
-/// left out and none is changed: where one has no number that four octets hold, there is no list at all. A number above
-/// [`GREATEST_NUMBER`] that four octets do hold is turned, and packing refuses it.
+/// No point is left out and none is changed: where one has no number that four octets hold, there is no list at all. A
+/// number above [`GREATEST_NUMBER`] that four octets do hold is turned, and packing refuses it.
+///
+/// ```
+/// use cleatmow::{numbers_of_points, NoNumber, Point};
+///
+/// assert_eq!(numbers_of_points(&[Point::Number(5), Point::Number(6)]), Ok(vec![5, 6]));
+/// let gap = NoNumber { place: 1, point: Point::Missing1 };
+/// assert_eq!(numbers_of_points(&[Point::Number(5), Point::Missing1, Point::Number(6)]), Err(gap));
+/// ```
 ///
 /// # Errors
 ///
-/// [`NoNumberToPack`] for the first point that is missing, negative, or above 4,294,967,295.
-///
-/// # Panics
-///
-/// At a point whose mark is not 0, 1 or 2, as [`points_in`] does.
-pub fn numbers_of_points(points: &[u8]) -> Result<Vec<u8>, NoNumberToPack> {
-    let mut numbers = Vec::with_capacity(points.len() / POINT_OCTETS * NUMBER_OCTETS);
-    for (place, point) in points_in(points).enumerate() {
-        let number = match point {
-            Point::Number(number) => u32::try_from(number).ok(),
-            // It holds number 0, which would be wind.
-            Point::Missing1 | Point::Missing2 => None,
-        };
-        numbers.extend(number.ok_or(NoNumberToPack { place, point })?.to_be_bytes());
-    }
-    Ok(numbers)
-}
-
-/// The groups that stand in a lent buffer, [`GROUP_OCTETS`] each.
-///
-/// Every whole group of `octets` is read, and spare octets short of one are not. Where more was lent than the groups
-/// take, hand over the front alone: `&groups[..summary.group_count as usize * GROUP_OCTETS]`.
-pub fn groups_in(octets: &[u8]) -> impl Iterator<Item = Group> + '_ {
-    octets.chunks_exact(GROUP_OCTETS).map(|octets| {
-        let mut numbers = numbers_in(octets);
-        let mut next = || numbers.next().expect("four numbers");
-        Group { start: next(), length: next(), least: next(), width: next() }
-    })
+/// [`NoNumber`] for the first point that is missing, negative, or above 4,294,967,295.
+pub fn numbers_of_points(points: impl IntoIterator<Item = impl Borrow<Point>>) -> Result<Vec<u32>, NoNumber> {
+    let number = |(place, point): (usize, Point)| {
+        // A missing point has none: the 0 in its octets would be wind.
+        let number = point.number().and_then(|number| u32::try_from(number).ok());
+        number.ok_or(NoNumber { place, point })
+    };
+    points.into_iter().map(|point| *point.borrow()).enumerate().map(number).collect()
 }
 
 /// Numbers of four octets each, big-endian.

@@ -5,6 +5,7 @@ use std::fmt;
 
 /// Why a call refuses its input. It carries its number and nothing else. `Display` has a sentence for the log.
 #[derive(Clone, Copy, Debug, PartialEq, Eq, Hash)]
+#[non_exhaustive]
 #[repr(u32)]
 pub enum Refusal {
     /// Splitting method not 1.
@@ -15,8 +16,7 @@ pub enum Refusal {
     Order = 3,
     /// Descriptor octets not 1 to 4.
     Descriptors = 4,
-    /// Number width above 31, width or length bits above 32; run-length b not 1 to 15 or M above 2^b − 1; bit field
-    /// width outside its range or starting bit above 7.
+    /// Number width above 31, width or length bits above 32; run-length b not 1 to 15 or M above 2^b − 1.
     Width = 5,
     /// Group count 0 or above 4,194,304.
     GroupCount = 6,
@@ -32,13 +32,13 @@ pub enum Refusal {
     Repeat = 11,
     /// A restored number is beyond 2^60 either way.
     Beyond = 12,
-    /// Packing: list empty or above 4,194,304 numbers, a number above 2,147,483,647, lookahead outside 1 to 65,535; bit
-    /// writer: a number does not fit.
+    /// Packing: list empty or above 4,194,304 numbers, a number above 2,147,483,647, lookahead outside 1 to 65,535.
     Numbers = 13,
 }
 
 impl Refusal {
-    const ALL: [Refusal; 13] = [
+    /// All of them, by their numbers.
+    pub const ALL: &[Refusal] = &[
         Refusal::Splitting,
         Refusal::Management,
         Refusal::Order,
@@ -61,7 +61,7 @@ impl Refusal {
 
     /// The refusal that has this number. 0, which is success, and numbers that are not in the table have none.
     pub fn from_number(number: u32) -> Option<Refusal> {
-        Refusal::ALL.into_iter().find(|refusal| refusal.number() == number)
+        Refusal::ALL.iter().copied().find(|refusal| refusal.number() == number)
     }
 
     /// What the number that a C call answers means.
@@ -74,8 +74,8 @@ impl Refusal {
         }
     }
 
-    /// What is wrong, and what that means at the desk.
-    fn sentence(self) -> &'static str {
+    /// What is wrong, and what that means at the desk. `Display` puts the number before it.
+    pub fn sentence(self) -> &'static str {
         match self {
             Refusal::Splitting => "the map splits its groups by a method other than 1, the only one that is read here",
             Refusal::Management => "missing management is above 2, so missing points cannot be told from numbers",

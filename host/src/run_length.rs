@@ -1,9 +1,22 @@
 //! Run-length, template 7.200.
 
-use crate::{ffi, lent, Refusal};
+use crate::filled::One;
+use crate::{ffi, lent, Filled, InOctets, Refusal};
 
 /// The size of a level in a lent buffer: two octets, big-endian.
 pub const LEVEL_OCTETS: usize = 2;
+
+impl InOctets for u16 {
+    const OCTETS: usize = LEVEL_OCTETS;
+
+    #[inline]
+    fn from_octets(octets: One) -> u16 {
+        u16::from_be_bytes(octets.array())
+    }
+}
+
+/// The levels of a map, in the octets that [`run_length_into`] filled.
+pub type Levels<'a> = Filled<'a, u16>;
 
 /// The levels of a run-length map.
 ///
@@ -25,18 +38,20 @@ pub fn run_length(bits: u8, max_level: u16, declared: u32, payload: &[u8]) -> Re
 
 /// The levels of a run-length map, in octets that the caller lends.
 ///
-/// On success the levels stand at the front of `levels`, [`LEVEL_OCTETS`] each; the octets past them are unchanged, and
-/// so is all of `levels` on a refusal. The other arguments are those of [`run_length`].
+/// On success the levels stand at the front of `lent`, [`LEVEL_OCTETS`] each, and the answer is a view over them; the
+/// octets past them are unchanged, and so is all of `lent` on a refusal. The other arguments are those of
+/// [`run_length`].
 ///
 /// # Errors
 ///
 /// [`Refusal::Width`], [`Refusal::Repeat`], [`Refusal::Points`] and [`Refusal::Room`], tested in this order.
-pub fn run_length_into(
+pub fn run_length_into<'a>(
     bits: u8,
     max_level: u16,
     declared: u32,
     payload: &[u8],
-    levels: &mut [u8],
-) -> Result<(), Refusal> {
-    Refusal::answered(ffi::run_length(bits, max_level, declared, payload, levels))
+    lent: &'a mut [u8],
+) -> Result<Levels<'a>, Refusal> {
+    Refusal::answered(ffi::run_length(bits, max_level, declared, payload, lent))?;
+    Ok(Filled::front(lent, declared as usize))
 }

@@ -3,9 +3,8 @@
 //! Nothing is judged here but that the octets are one whole Section 5 of a template that is known. Its numbers are
 //! handed over as they are; unpacking judges them. Messages and grids stay outside.
 
+use crate::section::{headed, NotSection};
 use crate::{Differences, Packing, Template};
-use std::error::Error;
-use std::fmt;
 
 /// A Section 5, read.
 #[derive(Clone, Copy, Debug, PartialEq, Eq)]
@@ -18,6 +17,7 @@ pub struct Section5 {
 
 /// The numbers of a template.
 #[derive(Clone, Copy, Debug, PartialEq, Eq)]
+#[non_exhaustive]
 pub enum TemplateNumbers {
     /// Template 5.2, or template 5.3 where there are differences.
     Groups {
@@ -52,26 +52,22 @@ impl Section5 {
     ///
     /// # Errors
     ///
-    /// [`NotSection5`] where the octets are not one whole Section 5 of template 5.2, 5.3 or 5.200.
-    pub fn from_octets(octets: &[u8]) -> Result<Section5, NotSection5> {
+    /// [`NotSection`] where the octets are not one whole Section 5 of template 5.2, 5.3 or 5.200.
+    pub fn from_octets(octets: &[u8]) -> Result<Section5, NotSection> {
         let count = octets.len();
-        let mut rest = Rest(octets);
-        let (length, section, declared, template) = rest.head().ok_or(NotSection5::Short { count })?;
-        if section != 5 {
-            return Err(NotSection5::Section { section });
-        }
-        if usize::try_from(length) != Ok(count) {
-            return Err(NotSection5::Length { length, count });
-        }
+        let mut rest = Rest(headed(5, octets)?);
+        let (Some(declared), Some(template)) = (rest.four(), rest.two()) else {
+            return Err(NotSection::Short { section: 5, count });
+        };
         let numbers = match template {
             2 => rest.complex(),
             3 => rest.spatial(),
             200 => rest.run_length(),
-            _ => return Err(NotSection5::Template { template }),
+            _ => return Err(NotSection::Template { template }),
         };
         match numbers {
             Some(numbers) if rest.0.is_empty() => Ok(Section5 { declared, numbers }),
-            _ => Err(NotSection5::Size { template, count }),
+            _ => Err(NotSection::Size { template, count }),
         }
     }
 
@@ -131,11 +127,6 @@ impl Rest<'_> {
         self.octets().map(u32::from_be_bytes)
     }
 
-    /// Length, section number, declared count, template number.
-    fn head(&mut self) -> Option<(u32, u8, u32, u16)> {
-        Some((self.four()?, self.one()?, self.four()?, self.two()?))
-    }
-
     fn complex(&mut self) -> Option<TemplateNumbers> {
         let (template, physical) = self.template()?;
         Some(TemplateNumbers::Groups { template, differences: None, physical })
@@ -177,57 +168,3 @@ impl Rest<'_> {
         Some(TemplateNumbers::RunLength { bits, max_level })
     }
 }
-
-/// Why octets are not a Section 5. `Display` has the rest of a sentence that begins with what was read.
-#[derive(Clone, Copy, Debug, PartialEq, Eq)]
-pub enum NotSection5 {
-    /// They end before the template number does.
-    Short {
-        /// How many there are.
-        count: usize,
-    },
-    /// They are another section.
-    Section {
-        /// Its number.
-        section: u8,
-    },
-    /// The section says another length than it has.
-    Length {
-        /// What it says.
-        length: u32,
-        /// How many octets there are.
-        count: usize,
-    },
-    /// Its template is not known here.
-    Template {
-        /// The template's number.
-        template: u16,
-    },
-    /// It does not have as many octets as its template.
-    Size {
-        /// The template's number.
-        template: u16,
-        /// How many octets there are.
-        count: usize,
-    },
-}
-
-impl fmt::Display for NotSection5 {
-    fn fmt(&self, f: &mut fmt::Formatter<'_>) -> fmt::Result {
-        match self {
-            NotSection5::Short { count } => write!(f, "is no Section 5: it has {count} octets, too few for one"),
-            NotSection5::Section { section } => write!(f, "is no Section 5: its section number is {section}"),
-            NotSection5::Length { length, count } => {
-                write!(f, "is no whole Section 5: it says that it has {length} octets, and it has {count}")
-            }
-            NotSection5::Template { template } => {
-                write!(f, "is of template 5.{template}, whose numbers are not read here")
-            }
-            NotSection5::Size { template, count } => {
-                write!(f, "is no Section 5 of template 5.{template}: it has {count} octets, not that template's")
-            }
-        }
-    }
-}
-
-impl Error for NotSection5 {}

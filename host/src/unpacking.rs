@@ -1,6 +1,6 @@
 //! Unpacking under templates 5.2 and 5.3.
 
-use crate::{ffi, lent, Refusal};
+use crate::{ffi, lent, Filled, Point, Points, Refusal, POINT_OCTETS};
 
 /// The numbers of template 5.2, in Section 5's order.
 #[derive(Clone, Copy, Debug, PartialEq, Eq)]
@@ -36,33 +36,6 @@ pub struct Differences {
     pub descriptor_octets: u8,
 }
 
-/// A point of a map.
-#[derive(Clone, Copy, Debug, PartialEq, Eq)]
-pub enum Point {
-    /// The number at this point, up to 2^60 either way.
-    Number(i64),
-    /// Missing 1.
-    Missing1,
-    /// Missing 2.
-    Missing2,
-}
-
-/// The size of a point in a lent buffer: nine octets, the mark (0 number, 1, 2) and then the number, big-endian two's
-/// complement. A missing point holds number 0.
-pub const POINT_OCTETS: usize = 9;
-
-impl Point {
-    fn from_octets(octets: [u8; POINT_OCTETS]) -> Point {
-        let [mark, number @ ..] = octets;
-        match mark {
-            0 => Point::Number(i64::from_be_bytes(number)),
-            1 => Point::Missing1,
-            2 => Point::Missing2,
-            _ => panic!("a point with mark {mark}: no call of Cleatmow has filled these octets"),
-        }
-    }
-}
-
 /// The points of a map under template 5.2.
 ///
 /// `declared` is how many points the map is declared to have; `payload` is Section 7 after its five-octet header.
@@ -74,14 +47,13 @@ impl Point {
 /// order.
 pub fn unpack_complex(template: &Template, declared: u32, payload: &[u8]) -> Result<Vec<Point>, Refusal> {
     let mut points = lent_points(declared);
-    unpack_complex_into(template, declared, payload, &mut points)?;
-    Ok(points_in(&points).collect())
+    Ok(unpack_complex_into(template, declared, payload, &mut points)?.iter().collect())
 }
 
 /// The points of a map under template 5.2, in octets that the caller lends.
 ///
-/// On success the points stand at the front of `points`, [`POINT_OCTETS`] each ([`points_in`] reads them); the octets
-/// past them are unchanged, and so is all of `points` on a refusal. The other arguments are those of
+/// On success the points stand at the front of `lent`, [`POINT_OCTETS`] each, and the answer is a view over them; the
+/// octets past them are unchanged, and so is all of `lent` on a refusal. The other arguments are those of
 /// [`unpack_complex`].
 ///
 /// # Errors
@@ -89,13 +61,14 @@ pub fn unpack_complex(template: &Template, declared: u32, payload: &[u8]) -> Res
 /// [`Refusal::Splitting`], [`Refusal::Management`], [`Refusal::GroupCount`], [`Refusal::Width`], [`Refusal::Short`] for
 /// the group fields, [`Refusal::GroupSize`], [`Refusal::Short`] for the values, [`Refusal::Points`] and
 /// [`Refusal::Room`], tested in this order.
-pub fn unpack_complex_into(
+pub fn unpack_complex_into<'a>(
     template: &Template,
     declared: u32,
     payload: &[u8],
-    points: &mut [u8],
-) -> Result<(), Refusal> {
-    Refusal::answered(ffi::unpack_complex(template, declared, payload, points))
+    lent: &'a mut [u8],
+) -> Result<Points<'a>, Refusal> {
+    Refusal::answered(ffi::unpack_complex(template, declared, payload, lent))?;
+    Ok(Filled::front(lent, declared as usize))
 }
 
 /// The points of a map under template 5.3, restored from their differences.
@@ -115,16 +88,15 @@ pub fn unpack_spatial(
     payload: &[u8],
 ) -> Result<Vec<Point>, Refusal> {
     let mut points = lent_points(declared);
-    unpack_spatial_into(template, differences, declared, payload, &mut points)?;
-    Ok(points_in(&points).collect())
+    Ok(unpack_spatial_into(template, differences, declared, payload, &mut points)?.iter().collect())
 }
 
 /// The points of a map under template 5.3, in octets that the caller lends.
 ///
-/// On success the points stand at the front of `points`, [`POINT_OCTETS`] each ([`points_in`] reads them); the octets
-/// past them are unchanged. A refusal changes nothing, but for [`Refusal::Beyond`], which leaves number 0 and mark 0 in
-/// the declared places. They look like points and are none: use `points` after success only. The other arguments are
-/// those of [`unpack_spatial`].
+/// On success the points stand at the front of `lent`, [`POINT_OCTETS`] each, and the answer is a view over them; the
+/// octets past them are unchanged. A refusal changes nothing, but for [`Refusal::Beyond`], which leaves number 0 and mark
+/// 0 in the declared places: they look like points, and no view shows them. The other arguments are those of
+/// [`unpack_spatial`].
 ///
 /// # Errors
 ///
@@ -132,31 +104,19 @@ pub fn unpack_spatial(
 /// the descriptors, [`Refusal::GroupCount`], [`Refusal::Width`], [`Refusal::Short`] for the group fields,
 /// [`Refusal::GroupSize`], [`Refusal::Short`] for the values, [`Refusal::Points`], [`Refusal::Room`] and
 /// [`Refusal::Beyond`], tested in this order.
-pub fn unpack_spatial_into(
+pub fn unpack_spatial_into<'a>(
     template: &Template,
     differences: &Differences,
     declared: u32,
     payload: &[u8],
-    points: &mut [u8],
-) -> Result<(), Refusal> {
-    Refusal::answered(ffi::unpack_spatial(template, differences, declared, payload, points))
+    lent: &'a mut [u8],
+) -> Result<Points<'a>, Refusal> {
+    Refusal::answered(ffi::unpack_spatial(template, differences, declared, payload, lent))?;
+    Ok(Filled::front(lent, declared as usize))
 }
 
-/// The points that stand in a lent buffer, [`POINT_OCTETS`] each.
-///
-/// Every whole point of `octets` is read, and spare octets short of one are not. Where more was lent than the declared
-/// count takes, hand over the front alone: `&points[..declared as usize * POINT_OCTETS]`. Where the mark is 1 or 2, the
-/// number is not looked at.
-///
-/// # Panics
-///
-/// The iterator panics at a point whose mark is not 0, 1 or 2. Such octets were not filled by a call, and showing them
-/// as a number, or leaving them out, would hide that.
-pub fn points_in(octets: &[u8]) -> impl Iterator<Item = Point> + '_ {
-    octets.chunks_exact(POINT_OCTETS).map(|octets| Point::from_octets(octets.try_into().expect("nine octets")))
-}
-
-/// Octets to lend for a declared count of points.
-fn lent_points(declared: u32) -> Vec<u8> {
+/// Octets to lend for a declared count of points. A count above [`MOST_POINTS`](crate::MOST_POINTS), which is refused
+/// before the room is looked at, gets none.
+pub fn lent_points(declared: u32) -> Vec<u8> {
     vec![0; lent(declared) * POINT_OCTETS]
 }

@@ -2,8 +2,8 @@
 
 use cleatmow::{
     numbers_as_octets, pack, pack_into, run_length, run_length_into, unpack_complex, unpack_complex_into,
-    unpack_spatial, unpack_spatial_into, Differences, Refusal, Template, GROUP_OCTETS, LEVEL_OCTETS, MOST_NUMBERS,
-    MOST_POINTS, NUMBER_OCTETS, POINT_OCTETS, SUMMARY_OCTETS,
+    unpack_spatial, unpack_spatial_into, Differences, Points, Refusal, Template, GROUP_OCTETS, LEVEL_OCTETS,
+    MOST_NUMBERS, MOST_POINTS, NUMBER_OCTETS, POINT_OCTETS, SUMMARY_OCTETS,
 };
 use std::alloc::{GlobalAlloc, Layout, System};
 use std::cell::Cell;
@@ -138,22 +138,26 @@ fn calls_on_lent_octets_allocate_nothing() {
     let mut summary = [0; SUMMARY_OCTETS];
     let nothing = asked(|| {
         // Answers 0, 7, 9, 10 and 12.
-        assert_eq!(unpack_complex_into(&template(8_000), 8_000, &payload, &mut points), Ok(()));
+        let all = unpack_complex_into(&template(8_000), 8_000, &payload, &mut points).unwrap();
+        assert_eq!((all.iter().count(), all.numbers().map(Iterator::count)), (8_000, Ok(8_000)));
         assert_eq!(unpack_complex_into(&template(8_001), 8_001, &payload, &mut points), Err(Refusal::Short));
         assert_eq!(unpack_complex_into(&template(7_999), 8_000, &payload, &mut points), Err(Refusal::Points));
         assert_eq!(unpack_complex_into(&template(8_000), 8_000, &payload, &mut points[1..]), Err(Refusal::Room));
-        let spatial =
-            |last, points: &mut [u8]| unpack_spatial_into(&template(last), &DIFFERENCES, last, &payload, points);
-        assert_eq!(spatial(7_994, &mut points), Ok(()));
+        let spatial = |last, points: &mut [u8]| {
+            unpack_spatial_into(&template(last), &DIFFERENCES, last, &payload, points).map(Points::len)
+        };
+        assert_eq!(spatial(7_994, &mut points), Ok(7_994));
         assert_eq!(spatial(7_995, &mut points), Err(Refusal::Short));
         assert_eq!(spatial(7_994, &mut points[55..]), Err(Refusal::Room));
         let second = Differences { order: 2, descriptor_octets: 4 };
         assert_eq!(unpack_spatial_into(&beyond, &second, 40_000, &far, &mut many), Err(Refusal::Beyond));
-        assert_eq!(run_length_into(8, 200, 3_000, &payload, &mut levels), Ok(()));
+        let all = run_length_into(8, 200, 3_000, &payload, &mut levels).unwrap();
+        assert_eq!(all.iter().count(), 3_000);
         // Answers 0, 13, and 10 for each of the three.
         let mut packed = |lookahead, slots: usize, room: usize, forty: usize| {
             let (groups, payload) = (&mut groups[..slots * GROUP_OCTETS], &mut points[..room]);
-            pack_into(lookahead, &list, groups, payload, &mut summary[..forty]).map(|summary| summary.group_count)
+            pack_into(lookahead, &list, groups, payload, &mut summary[..forty])
+                .map(|packed| packed.groups.iter().count())
         };
         assert_eq!(packed(1, 2_000, 4_000, SUMMARY_OCTETS), Ok(2_000));
         assert_eq!(packed(0, 2_000, 4_000, SUMMARY_OCTETS), Err(Refusal::Numbers));

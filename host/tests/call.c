@@ -20,7 +20,13 @@ static int is_all(const uint8_t *octets, size_t len, uint8_t octet) {
     return i == len;
 }
 
+/* A macro's number, as text. */
+#define TEXT(number) TEXT_OF(number)
+#define TEXT_OF(number) #number
+
 static int constants(void) {
+    EXPECT(strcmp(CLEATMOW_VERSION, TEXT(CLEATMOW_VERSION_MAJOR) "." TEXT(CLEATMOW_VERSION_MINOR)
+        "." TEXT(CLEATMOW_VERSION_PATCH)) == 0);
     EXPECT(CLEATMOW_MOST_POINTS == 4194304);
     EXPECT(CLEATMOW_POINT_OCTETS == 9 && CLEATMOW_LEVEL_OCTETS == 2);
     EXPECT(CLEATMOW_NUMBER_OCTETS == 4 && CLEATMOW_GROUP_OCTETS == 16 && CLEATMOW_SUMMARY_OCTETS == 40);

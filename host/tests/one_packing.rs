@@ -4,12 +4,12 @@
 
 mod support;
 
-use cleatmow::maps::{self, Numbers};
 use cleatmow::{
-    groups_in, numbers_as_octets, numbers_of_points, pack_into, points_in, Group, NoNumberToPack, Point, Refusal,
-    Section5, Template, GREATEST_LOOKAHEAD, GREATEST_NUMBER, GROUP_OCTETS, NUMBER_OCTETS, POINT_OCTETS, SUMMARY_OCTETS,
+    numbers_as_octets, numbers_of_points, pack_into, Group, NoNumber, Point, Refusal, Section5, Template,
+    GREATEST_LOOKAHEAD, GREATEST_NUMBER, GROUP_OCTETS, POINT_OCTETS, SUMMARY_OCTETS,
 };
 use std::collections::HashMap;
+use support::maps::{self, Numbers};
 use support::model::{octets_of, template, Input};
 use support::others;
 use writer::Choices;
@@ -266,10 +266,14 @@ fn written(chance: &mut Numbers, numbers: &[u32]) -> Input {
     Choices::by_chance(chance, numbers).write(numbers)
 }
 
-/// The points of a packing, in lent octets.
-fn unpacked(input: &Input) -> Vec<u8> {
-    let mut points = vec![0xEE; input.declared as usize * POINT_OCTETS];
-    assert_eq!(input.call(&mut points), 0, "{input:02X?}");
+/// The points of a packing, from the view over lent octets. All octets are those of the points; and turned into
+/// numbers, the view and the list are the same.
+fn unpacked(input: &Input) -> Vec<Point> {
+    let mut lent = vec![0xEE; input.declared as usize * POINT_OCTETS];
+    let view = input.view(&mut lent).unwrap_or_else(|refusal| panic!("{refusal}, {input:02X?}"));
+    let points: Vec<Point> = view.iter().collect();
+    assert_eq!(numbers_of_points(view), numbers_of_points(&points), "{input:02X?}");
+    assert!(lent == octets_of(&points), "{input:02X?}");
     points
 }
 
@@ -291,32 +295,28 @@ impl Packed {
 }
 
 /// Packs numbers in lent octets.
-fn packed_numbers(numbers: &[u8], lookahead: u32) -> Result<Packed, Refusal> {
-    let count = numbers.len() / NUMBER_OCTETS;
+fn packed_numbers(numbers: &[u32], lookahead: u32) -> Result<Packed, Refusal> {
+    let count = numbers.len();
     let (mut groups, mut payload) = (vec![0xEE; count * GROUP_OCTETS], vec![0xEE; 10 * count + 4]);
-    let mut octets = [0xEE; SUMMARY_OCTETS];
-    let summary = pack_into(lookahead, numbers, &mut groups, &mut payload, &mut octets)?;
-    groups.truncate(summary.group_count as usize * GROUP_OCTETS);
-    payload.truncate(summary.payload_length as usize);
-    let template_numbers = octets[..32].try_into().expect("eight numbers");
-    Ok(Packed { template: summary.template, groups: groups_in(&groups).collect(), sent: (template_numbers, payload) })
+    let mut summary = [0xEE; SUMMARY_OCTETS];
+    let packed = pack_into(lookahead, &numbers_as_octets(numbers), &mut groups, &mut payload, &mut summary)?;
+    let sent = (summary[..32].try_into().expect("eight numbers"), packed.payload.to_vec());
+    Ok(Packed { template: packed.template, groups: packed.groups.iter().collect(), sent })
 }
 
 /// Turns points into numbers and packs them.
-fn packed(points: &[u8], lookahead: u32) -> Packed {
-    let numbers = numbers_of_points(points).expect("a map without missing points");
-    packed_numbers(&numbers, lookahead).expect("a map to pack")
+fn packed(points: &[Point], lookahead: u32) -> Packed {
+    packed_numbers(&numbers_of(points), lookahead).expect("a map to pack")
 }
 
-/// The points of these numbers, as they stand in lent octets.
-fn points_of(numbers: &[u32]) -> Vec<u8> {
-    octets_of(&numbers.iter().map(|number| Point::Number((*number).into())).collect::<Vec<_>>())
+/// The points of these numbers.
+fn points_of(numbers: &[u32]) -> Vec<Point> {
+    numbers.iter().map(|number| Point::Number((*number).into())).collect()
 }
 
-/// The numbers of points that stand in lent octets.
-fn numbers_of(points: &[u8]) -> Vec<u32> {
-    let number = |octets: &[u8]| u32::from_be_bytes(octets.try_into().expect("four octets"));
-    numbers_of_points(points).expect("numbers").chunks_exact(NUMBER_OCTETS).map(number).collect()
+/// The numbers of points.
+fn numbers_of(points: &[Point]) -> Vec<u32> {
+    numbers_of_points(points).expect("a map without missing points")
 }
 
 /// The claim, on two packings that hold these numbers: both are accepted and have those points; packed again with one
@@ -574,13 +574,12 @@ fn packings_by_other_writers() {
     for map in accepted {
         let input = Input::of_map(&map.section5, &map.payload);
         let points = unpacked(&input);
-        let first = points_in(&points).enumerate().find(|(_, point)| !matches!(point, Point::Number(_)));
-        if let Some((place, point)) = first {
-            assert_eq!(numbers_of_points(&points), Err(NoNumberToPack { place, point }), "{}", map.id);
+        if let Some(place) = points.iter().position(|point| !matches!(point, Point::Number(_))) {
+            let point = points[place];
+            assert_eq!(numbers_of_points(&points), Err(NoNumber { place, point }), "{}", map.id);
             missing += 1;
         } else if numbers_of(&points).into_iter().any(|number| number > GREATEST_NUMBER) {
-            let numbers = numbers_of_points(&points).expect("numbers");
-            assert_eq!(packed_numbers(&numbers, 1), Err(Refusal::Numbers), "{}", map.id);
+            assert_eq!(packed_numbers(&numbers_of(&points), 1), Err(Refusal::Numbers), "{}", map.id);
             too_great += 1;
         } else {
             held.push((numbers_of(&points), input));
@@ -601,8 +600,7 @@ fn packings_by_other_writers() {
 fn packings_with_another_lookahead() {
     let mut chance = Numbers::new(77);
     for map in maps_of_every_kind() {
-        let list = numbers_as_octets(&map);
-        let direct = LOOKAHEADS.map(|lookahead| packed_numbers(&list, lookahead).expect("a list to pack"));
+        let direct = LOOKAHEADS.map(|lookahead| packed_numbers(&map, lookahead).expect("a list to pack"));
         let own = direct.iter().map(|packing| packing.input(map.len()));
         for input in own.chain([written(&mut chance, &map)]) {
             let points = unpacked(&input);
@@ -666,16 +664,25 @@ fn the_writer_chooses_freely() {
     seen("octets after the last value", &|choices| !choices.spare.is_empty());
 }
 
-/// The nine octets of a point become the four of a number, and no missing point becomes wind. This is the host's own:
-/// it is run here, and not proved.
+/// The numbers of points, which are the same whatever list the points come in.
+fn turned<const COUNT: usize>(points: [Point; COUNT]) -> Result<Vec<u32>, NoNumber> {
+    let numbers = numbers_of_points(points);
+    let (array, list) = (&points, &points.to_vec());
+    assert_eq!((numbers_of_points(array), numbers_of_points(list)), (numbers.clone(), numbers.clone()));
+    assert_eq!((numbers_of_points(&list[..]), numbers_of_points(list.clone())), (numbers.clone(), numbers.clone()));
+    numbers
+}
+
+/// Points become numbers to pack, and no missing point becomes wind. This is the host's own: it is run here, and not
+/// proved.
 #[test]
 fn points_turned_into_numbers() {
     use Point::{Missing1, Missing2, Number};
-    let turned = |points: &[Point]| numbers_of_points(&octets_of(points));
-    assert_eq!(turned(&[]), Ok(vec![]));
+    assert_eq!(turned([]), Ok(vec![]));
     let numbers = [0, 1, 0x0102_0304, GREATEST_NUMBER, GREATEST_NUMBER + 1, u32::MAX];
-    assert_eq!(turned(&numbers.map(|number| Number(number.into()))), Ok(numbers_as_octets(&numbers)));
-    assert_eq!(turned(&[Number(0x0102_0304), Number(7)]), Ok(vec![1, 2, 3, 4, 0, 0, 0, 7]));
+    assert_eq!(turned(numbers.map(|number| Number(number.into()))), Ok(numbers.to_vec()));
+    let octets = turned([Number(0x0102_0304), Number(7)]).map(|numbers| numbers_as_octets(&numbers));
+    assert_eq!(octets, Ok(vec![1, 2, 3, 4, 0, 0, 0, 7]));
 
     let not =
         [Missing1, Missing2, Number(-1), Number(1 << 32), Number((1 << 32) + 7), Number(i64::MAX), Number(i64::MIN)];
@@ -683,29 +690,16 @@ fn points_turned_into_numbers() {
         for place in 0..4 {
             let mut points = [5, 6, 5, 7].map(Number);
             points[place] = point;
-            assert_eq!(turned(&points), Err(NoNumberToPack { place, point }));
+            assert_eq!(turned(points), Err(NoNumber { place, point }));
             // The first is told.
             points[3] = Missing2;
             let point = points[place];
-            assert_eq!(turned(&points), Err(NoNumberToPack { place, point }));
+            assert_eq!(turned(points), Err(NoNumber { place, point }));
         }
     }
-    // The mark decides, whatever stands beside it.
-    assert_eq!(numbers_of_points(&[1, 0, 0, 0, 0, 0, 0, 0, 9]), Err(NoNumberToPack { place: 0, point: Missing1 }));
-    assert_eq!(numbers_of_points(&[2, 0, 0, 0, 0, 0, 0, 0, 9]), Err(NoNumberToPack { place: 0, point: Missing2 }));
 
-    // "spare octets short of a whole one are not used"
-    let mut octets = octets_of(&[Number(5)]);
-    for spare in 0..POINT_OCTETS {
-        assert_eq!(numbers_of_points(&octets), Ok(vec![0, 0, 0, 5]), "{spare} spare octets");
-        octets.push(1);
-    }
-    for short in 0..POINT_OCTETS {
-        assert_eq!(numbers_of_points(&octets[..short]), Ok(vec![]), "{short} octets");
-    }
-
-    let sentence = |point| NoNumberToPack { place: 17, point }.to_string();
-    assert_eq!(sentence(Missing1), "the point at place 17 is missing: there is no number to pack");
+    let sentence = |point| NoNumber { place: 17, point }.to_string();
+    assert_eq!(sentence(Missing1), "the point at place 17 is missing: it has no number");
     assert_eq!(sentence(Missing2), sentence(Missing1));
     assert_eq!(
         sentence(Number(-1)),
@@ -713,21 +707,11 @@ fn points_turned_into_numbers() {
     );
 }
 
-/// Octets with another mark were not filled by a call, and are no number.
-#[test]
-#[should_panic(expected = "a point with mark 3")]
-fn points_of_another_mark_are_not_turned() {
-    let mut points = points_of(&[5, 6]);
-    points[POINT_OCTETS] = 3;
-    let _ = numbers_of_points(&points);
-}
-
 /// The claim is of one lookahead from 1 to 65,535: two of them make two packings of one map, any other none.
 #[test]
 fn two_lookaheads_make_two_packings() {
     let map = [5, 6, 5, 7];
-    let list = numbers_as_octets(&map);
-    let [singles, pairs] = [1, 4].map(|lookahead| packed_numbers(&list, lookahead).expect("a list to pack"));
+    let [singles, pairs] = [1, 4].map(|lookahead| packed_numbers(&map, lookahead).expect("a list to pack"));
     assert_eq!((singles.template, &singles.sent.1[..]), (template(3, 4, (0, 0), (1, 0, 1, 0)), &[0xBA, 0xF0][..]));
     assert_eq!((pairs.template, &pairs.sent.1[..]), (template(3, 2, (0, 1), (3, 0, 1, 0)), &[0xBC, 0x80, 0x40][..]));
     for packing in [&singles, &pairs] {
@@ -737,7 +721,7 @@ fn two_lookaheads_make_two_packings() {
     }
     assert_ne!(singles.sent, pairs.sent);
     for lookahead in [0, GREATEST_LOOKAHEAD + 1] {
-        assert_eq!(packed_numbers(&list, lookahead), Err(Refusal::Numbers));
+        assert_eq!(packed_numbers(&map, lookahead), Err(Refusal::Numbers));
     }
 }
 
@@ -751,8 +735,8 @@ fn a_number_above_the_greatest_is_not_packed() {
         payload: vec![0xFF, 0xFF, 0xFF, 0xFE, value],
     };
     assert_eq!(holding(0x80).points(), Ok(vec![Point::Number(2_147_483_648)]));
-    let numbers = numbers_of_points(&unpacked(&holding(0x80))).expect("four octets hold it");
-    assert_eq!(numbers, [0x80, 0, 0, 0]);
+    let numbers = numbers_of_points(unpacked(&holding(0x80))).expect("four octets hold it");
+    assert_eq!(numbers, [2_147_483_648]);
     assert_eq!(packed_numbers(&numbers, 1), Err(Refusal::Numbers));
     // The number below it is packed.
     hold([&[GREATEST_NUMBER]; 2], [&holding(0x00), &holding(0x7F)], 1);
@@ -767,15 +751,15 @@ fn a_missing_point_is_not_packed() {
         declared: 4,
         payload: vec![0xBC, 0x80, 0x40],
     };
-    let turned = |missing| numbers_of_points(&unpacked(&managed(missing)));
-    assert_eq!(turned(0), Ok(numbers_as_octets(&[5, 6, 5, 7])));
-    assert_eq!(turned(1), Err(NoNumberToPack { place: 1, point: Point::Missing1 }));
-    assert_eq!(turned(2), Err(NoNumberToPack { place: 0, point: Point::Missing2 }));
-    // "a missing point holds number 0": but for the marks these are the points of another map, and who turned them
-    // without a look at the marks would make one packing of both.
-    let mut points = unpacked(&managed(1));
-    points.iter_mut().step_by(POINT_OCTETS).for_each(|mark| *mark = 0);
-    assert_eq!(points, points_of(&[5, 0, 5, 0]));
+    let turned = |missing| numbers_of_points(unpacked(&managed(missing)));
+    assert_eq!(turned(0), Ok(vec![5, 6, 5, 7]));
+    assert_eq!(turned(1), Err(NoNumber { place: 1, point: Point::Missing1 }));
+    assert_eq!(turned(2), Err(NoNumber { place: 0, point: Point::Missing2 }));
+    // "a missing point holds number 0": but for the marks these are the points of another map, and who turned their
+    // octets without a look at the marks would make one packing of both.
+    let mut octets = octets_of(&unpacked(&managed(1)));
+    octets.iter_mut().step_by(POINT_OCTETS).for_each(|mark| *mark = 0);
+    assert_eq!(octets, octets_of(&points_of(&[5, 0, 5, 0])));
 }
 
 /// The claim is of maps with a point: one without is unpacked, and there is nothing to pack.
@@ -786,7 +770,7 @@ fn a_map_without_points_is_not_packed() {
     let several = Input { template: template(7, 5, (3, 2), (0, 9, 0, 0)), payload: vec![0xFF; 7], ..nothing.clone() };
     for input in [nothing, several] {
         assert_eq!(input.points(), Ok(vec![]));
-        let numbers = numbers_of_points(&unpacked(&input)).expect("no point is missing");
+        let numbers = numbers_of_points(unpacked(&input)).expect("no point is missing");
         assert_eq!(numbers, []);
         assert_eq!(packed_numbers(&numbers, 1), Err(Refusal::Numbers));
     }

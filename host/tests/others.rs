@@ -1,4 +1,4 @@
-//! Maps by other writers (samples/others.txt), through the C calls.
+//! Maps by other writers and by hand, with the points that other readers have (samples/others.txt), through the C calls.
 
 mod support;
 

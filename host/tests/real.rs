@@ -2,7 +2,7 @@
 
 mod support;
 
-use cleatmow::{points_in, Point, Refusal, Section5, POINT_OCTETS};
+use cleatmow::{payload_of, section7_of, Point, Refusal, Section5, POINT_OCTETS};
 use support::model::Input;
 use support::sha256::sha256;
 
@@ -71,6 +71,8 @@ impl Map {
         let section5 = Section5::from_octets(self.section5).expect(self.name);
         let (header, payload) = self.section7.split_at(5);
         assert_eq!(header, [&(self.section7.len() as u32).to_be_bytes()[..], &[7]].concat(), "{}", self.name);
+        assert_eq!(payload_of(self.section7), Ok(payload), "{}", self.name);
+        assert!(section7_of(payload).is_some_and(|section7| section7 == self.section7), "{}", self.name);
         assert_eq!(section5.template_number(), self.template, "{}", self.name);
         Input::of_map(&section5, payload)
     }
@@ -97,7 +99,8 @@ fn points_are_the_tables() {
         assert_eq!(digest, map.digest, "{}", map.name);
 
         let points = input.points().unwrap();
-        assert!(points_in(&octets).eq(points.iter().copied()), "{}", map.name);
+        let view = input.view(&mut octets).expect(map.name);
+        assert!(view.iter().eq(points.iter().copied()), "{}", map.name);
         let mut numbers = Vec::new();
         for point in &points {
             match point {

@@ -17,6 +17,7 @@ fn table() -> impl Iterator<Item = (u32, Refusal)> {
 #[test]
 fn numbers_are_the_tables() {
     assert!(table().all(|(number, refusal)| refusal.number() == number));
+    assert!(Refusal::ALL.iter().copied().eq(table().map(|(_, refusal)| refusal)));
     for number in [0, 14, 255, 256 + 9, u32::MAX] {
         assert_eq!(Refusal::from_number(number), None);
     }
@@ -33,14 +34,19 @@ fn each_has_a_sentence_of_its_own_for_the_log() {
         let line = error.to_string();
         let sentence = line.strip_prefix(&format!("refusal {number}: "));
         let sentence = sentence.expect("the number comes first").to_string();
+        assert_eq!(sentence, refusal.sentence());
         assert!(!sentence.contains(['\n', '\t']) && !sentence.contains("  "), "{line}");
         assert!(sentences.insert(sentence), "said twice: {line}");
     }
 }
 
+/// Whether the header has this line.
+fn has(line: String) -> bool {
+    HEADER.lines().any(|read| read.trim_matches([' ', ',']) == line)
+}
+
 #[test]
 fn the_header_says_the_same() {
-    let has = |line: String| HEADER.lines().any(|read| read.trim_matches([' ', ',']) == line);
     for (number, refusal) in table() {
         let mut name = String::from("CLEATMOW_REFUSAL");
         for letter in format!("{refusal:?}").chars() {
@@ -63,4 +69,26 @@ fn the_header_says_the_same() {
     assert!(has(format!("#define CLEATMOW_PACKING_SPLITTING {}", Packing::SPLITTING)));
     assert!(has(format!("#define CLEATMOW_PACKING_MISSING {}", Packing::MISSING)));
     assert!(has(format!("#define CLEATMOW_PACKING_MISSING_VALUE {:#x}", Packing::MISSING_VALUE)));
+}
+
+#[test]
+fn the_header_has_the_version_of_the_host() {
+    let version = env!("CARGO_PKG_VERSION");
+    assert!(has(format!("#define CLEATMOW_VERSION \"{version}\"")));
+    let numbers: Vec<&str> = version.split('.').collect();
+    assert_eq!(numbers.len(), 3);
+    for (name, number) in ["MAJOR", "MINOR", "PATCH"].iter().zip(numbers) {
+        assert!(has(format!("#define CLEATMOW_VERSION_{name} {number}")), "{name}");
+    }
+}
+
+/// Document 01's table has refusals of the bit reader and the bit writer too, which no C call is.
+#[test]
+fn the_header_speaks_of_its_own_calls() {
+    // Without what begins and ends the lines of a comment.
+    let words: Vec<&str> = HEADER.split([' ', '\n', '*', '/']).filter(|word| !word.is_empty()).collect();
+    let words = words.join(" ").to_lowercase();
+    for absent in ["bit field", "bit reader", "bit writer"] {
+        assert!(!words.contains(absent), "{absent}");
+    }
 }

@@ -2,19 +2,16 @@
 
 mod support;
 
-use cleatmow::maps::{rain, Numbers};
 use cleatmow::{run_length, run_length_into, Refusal, LEVEL_OCTETS, MOST_POINTS};
 use support::guarded;
-use support::model::run_length::{answer, coded, good, points, run, runs, Input};
+use support::maps::{rain, Numbers};
+use support::model::run_length::{answer, call, coded, good, points, run, runs, Input};
 
 /// Holds the call on `len` lent octets to the model.
 fn compare(input: Input, len: usize) -> u32 {
     let (bits, max_level, declared, payload) = input;
-    let call = |lent: &mut [u8]| {
-        run_length_into(bits, max_level, declared, payload, lent).map_or_else(Refusal::number, |()| 0)
-    };
     let shown = format_args!("b {bits}, M {max_level}, declared {declared}, {payload:02X?}");
-    guarded::compare(shown, len, |lent| answer(input, lent), call).0
+    guarded::compare(shown, len, |lent| answer(input, lent), |lent| call(input, lent)).0
 }
 
 /// The same with zero digits up to the end of an octet. They add no point, where zero bits would be a level.

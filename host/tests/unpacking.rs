@@ -3,9 +3,9 @@
 
 mod support;
 
-use cleatmow::maps::Numbers;
-use cleatmow::{points_in, Differences, Point, Refusal, Template, MOST_POINTS, POINT_OCTETS};
+use cleatmow::{Differences, Point, Refusal, Template, MOST_POINTS, POINT_OCTETS};
 use support::guarded;
+use support::maps::Numbers;
 use support::model::{self, field, good, number_of, octets_of, payload, template, Input, Written};
 
 /// An input under 5.2, with its declared count.
@@ -776,33 +776,6 @@ fn shapes_of_other_fields_that_are_refused() {
     assert_eq!(complex(template, POINTS, &[]).call(&mut lent), 9);
     assert_eq!(spatial(1, 1, template, POINTS, &[0, 0]).call(&mut lent), 9);
     assert!(lent.iter().all(|octet| *octet == 7));
-}
-
-/// What stands in a buffer is read as it stands there, and spare octets are not.
-#[test]
-fn points_in_octets() {
-    use Point::{Missing1, Missing2, Number};
-    let points = [Number(0), Number(1), Missing1, Number(-1), Missing2, Number(1 << 60), Number(-1 << 60), Number(256)];
-    let mut octets = octets_of(&points);
-    assert_eq!(octets[..POINT_OCTETS * 2], [0, 0, 0, 0, 0, 0, 0, 0, 0, 0, 0, 0, 0, 0, 0, 0, 0, 1]);
-    for spare in 0..POINT_OCTETS {
-        assert!(points_in(&octets).eq(points), "{spare} spare octets");
-        octets.push(3);
-    }
-    assert_eq!(points_in(&octets[..8]).count(), 0);
-    // The mark decides: whatever stands beside 1 or 2 is no number.
-    assert!(points_in(&[1, 0, 0, 0, 0, 0, 0, 0, 9, 2, 9, 0, 0, 0, 0, 0, 0, 0]).eq([Missing1, Missing2]));
-}
-
-/// Octets with another mark were not filled by a call, and are not shown as a point.
-#[test]
-#[should_panic(expected = "a point with mark 3")]
-fn points_in_octets_of_another_mark() {
-    let mut octets = octets_of(&[Point::Number(5), Point::Number(6)]);
-    octets[POINT_OCTETS] = 3;
-    let mut points = points_in(&octets);
-    assert_eq!(points.next(), Some(Point::Number(5)));
-    points.next();
 }
 
 /// Every small template on a payload of every length.

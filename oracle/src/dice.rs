@@ -1,6 +1,6 @@
 //! Numbers that look random and are the same in every run.
 
-use cleatmow::maps::Numbers;
+use crate::maps::Numbers;
 
 pub struct Dice(Numbers);
 

@@ -39,6 +39,9 @@ mod doors {
 
 pub mod bit_fields;
 pub mod dice;
+// Those of the host's tests.
+#[path = "../../host/tests/support/maps.rs"]
+pub mod maps;
 pub mod packing;
 pub mod runs;
 pub mod unpacking;

@@ -340,10 +340,11 @@ fn document_answers(input: &Input, document: &Result<Points, u32>) -> bool {
         Some(differences) => {
             unpack_spatial_into(&input.template, differences, input.declared, &input.payload, &mut lent)
         }
-    };
+    }
+    .map(|view| view.len());
     written
         && match (answer, ours) {
-            (Ok(points), Ok(())) => octets_of(&points) == lent,
+            (Ok(points), Ok(count)) => count == points.len() && octets_of(&points) == lent,
             (Err(number), Err(refusal)) => number == refusal.number(),
             _ => false,
         }

@@ -1,6 +1,6 @@
 //! Chance, and what it does to octets and numbers.
 
-use cleatmow::maps::Numbers;
+use crate::support::maps::Numbers;
 
 /// Chance that is the same in every run.
 pub struct Chance(pub Numbers);

@@ -13,13 +13,13 @@ mod run_length;
 mod support;
 mod unpacking;
 
-use cleatmow::maps::Numbers;
 use damage::Chance;
 use std::collections::{BTreeMap, HashSet};
 use std::env;
 use std::fmt::Debug;
 use std::hash::{DefaultHasher, Hash, Hasher};
 use std::panic::{catch_unwind, resume_unwind, AssertUnwindSafe};
+use support::maps::Numbers;
 
 /// An answer: its number and, where document 01 lists the number more than once for an operation, what it is for.
 type Class = (u32, &'static str);

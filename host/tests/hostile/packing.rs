@@ -1,14 +1,14 @@
 //! Grouping and packing.
 
 use crate::damage::{self, Chance};
-use crate::support::model::packing::{answer, is_refused, list_by_chance, packing, Left};
+use crate::support::maps::{self, Numbers};
+use crate::support::model::packing::{answer, call, is_refused, list_by_chance, packing, Left};
 use crate::support::{model, others};
 use crate::unpacking::real_maps;
 use crate::{Block, Class, Input, Operation};
-use cleatmow::maps::{self, Numbers};
 use cleatmow::{
-    numbers_as_octets, pack_into, Packing, GREATEST_LOOKAHEAD, GREATEST_NUMBER, GROUP_OCTETS, MOST_NUMBERS,
-    NUMBER_OCTETS, SUMMARY_OCTETS,
+    numbers_as_octets, Packing, GREATEST_LOOKAHEAD, GREATEST_NUMBER, GROUP_OCTETS, MOST_NUMBERS, NUMBER_OCTETS,
+    SUMMARY_OCTETS,
 };
 
 /// Good lists.
@@ -117,8 +117,8 @@ impl Input for List {
 
     fn call(&self, read: &mut Block, lent: &mut [Block]) -> u32 {
         let [groups, payload, summary] = lent else { panic!("three buffers are lent") };
-        pack_into(self.lookahead, read.octets(), groups.octets(), payload.octets(), summary.octets())
-            .map_or_else(cleatmow::Refusal::number, |_| 0)
+        let lent = [groups.octets(), payload.octets(), summary.octets()];
+        call(self.lookahead, read.octets(), lent, self.right.as_ref())
     }
 
     fn right(&self, lent: &mut [Block]) -> Class {

@@ -1,11 +1,11 @@
 //! Run-length, template 7.200.
 
 use crate::damage::{self, Chance, DECLARED};
-use crate::support::model::run_length::{answer, coded, good, points, run, runs};
+use crate::support::maps::{rain, Numbers};
+use crate::support::model::run_length::{answer, call, coded, good, points, run, runs};
 use crate::support::{model, others};
 use crate::unpacking::real_maps;
 use crate::{Block, Class, Input, Operation};
-use cleatmow::maps::{rain, Numbers};
 use cleatmow::{TemplateNumbers, LEVEL_OCTETS};
 
 /// Good maps, each with its own count declared.
@@ -88,8 +88,7 @@ impl Input for Reading {
 
     fn call(&self, read: &mut Block, lent: &mut [Block]) -> u32 {
         let Map { bits, max_level, declared, .. } = self.map;
-        cleatmow::run_length_into(bits, max_level, declared, read.octets(), lent[0].octets())
-            .map_or_else(cleatmow::Refusal::number, |()| 0)
+        call((bits, max_level, declared, read.octets()), lent[0].octets())
     }
 
     fn right(&self, lent: &mut [Block]) -> Class {

@@ -1,10 +1,10 @@
 //! Unpacking under 5.2 and 5.3.
 
 use crate::damage::{self, Chance, DECLARED};
+use crate::support::maps::{gust_differences, gusts, ComplexMap, Numbers};
 use crate::support::model::{self, good, payload, read_back, template, Input as Map, Written};
 use crate::support::others;
 use crate::{Block, Class, Input, Operation};
-use cleatmow::maps::{gust_differences, gusts, ComplexMap, Numbers};
 use cleatmow::{Differences, Section5, Template, POINT_OCTETS};
 use std::fmt::Debug;
 
@@ -151,13 +151,7 @@ impl Input for Unpacking {
     }
 
     fn call(&self, read: &mut Block, lent: &mut [Block]) -> u32 {
-        let Map { template, differences, declared, .. } = &self.map;
-        let (payload, points) = (read.octets(), lent[0].octets());
-        match differences {
-            None => cleatmow::unpack_complex_into(template, *declared, payload, points),
-            Some(differences) => cleatmow::unpack_spatial_into(template, differences, *declared, payload, points),
-        }
-        .map_or_else(cleatmow::Refusal::number, |()| 0)
+        self.map.call_on(read.octets(), lent[0].octets())
     }
 
     fn right(&self, lent: &mut [Block]) -> Class {

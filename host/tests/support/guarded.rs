@@ -1,5 +1,6 @@
-//! Lent buffers with guards around them.
+//! Lent buffers with guards around them, and the views over their front.
 
+use cleatmow::{Filled, InOctets};
 use std::fmt::Display;
 
 /// The octets on either side of the lent ones.
@@ -30,4 +31,11 @@ pub fn compare(
     });
     let [_, second] = compared;
     second
+}
+
+/// Holds a view to where it should be: so many places in the octets from the front on, and none past them.
+pub fn hold_view<T: InOctets>(view: Filled<T>, front: *const u8, count: usize) {
+    assert_eq!((view.len(), view.iter().len(), view.is_empty()), (count, count, count == 0));
+    assert_eq!((view.octets().as_ptr(), view.octets().len()), (front, count * T::OCTETS));
+    assert!(view.get(count).is_none());
 }

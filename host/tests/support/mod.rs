@@ -2,7 +2,9 @@
 
 #![allow(dead_code)]
 
+pub mod grib2;
 pub mod guarded;
+pub mod maps;
 pub mod model;
 pub mod others;
 pub mod sha256;

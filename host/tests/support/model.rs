@@ -7,8 +7,9 @@
 pub mod packing;
 pub mod run_length;
 
-use cleatmow::maps::Numbers;
-use cleatmow::{Differences, Point, Refusal, Section5, Template, TemplateNumbers};
+use super::guarded;
+use super::maps::Numbers;
+use cleatmow::{Differences, Point, Points, Refusal, Section5, Template, TemplateNumbers};
 
 /// What a call is given beside the lent buffer. Without differences it is template 5.2, with them 5.3.
 #[derive(Clone, Debug, PartialEq)]
@@ -28,15 +29,36 @@ impl Input {
         Input { template, differences, declared: section5.declared, payload: payload.to_vec() }
     }
 
+    /// The view that the call answers over the octets, or its refusal.
+    pub fn view<'a>(&self, points: &'a mut [u8]) -> Result<Points<'a>, Refusal> {
+        self.view_of(&self.payload, points)
+    }
+
     /// What the call answers, and leaves in the octets.
     pub fn call(&self, points: &mut [u8]) -> u32 {
-        let called = match &self.differences {
-            None => cleatmow::unpack_complex_into(&self.template, self.declared, &self.payload, points),
-            Some(differences) => {
-                cleatmow::unpack_spatial_into(&self.template, differences, self.declared, &self.payload, points)
+        self.call_on(&self.payload, points)
+    }
+
+    /// The same on a payload that stands elsewhere. Where a view is answered, it is of the declared points at the front
+    /// of the octets, and of nothing past them.
+    pub fn call_on(&self, payload: &[u8], points: &mut [u8]) -> u32 {
+        let front = points.as_ptr();
+        match self.view_of(payload, points) {
+            Ok(view) => {
+                guarded::hold_view(view, front, self.declared as usize);
+                0
             }
-        };
-        called.map_or_else(Refusal::number, |()| 0)
+            Err(refusal) => refusal.number(),
+        }
+    }
+
+    fn view_of<'a>(&self, payload: &[u8], points: &'a mut [u8]) -> Result<Points<'a>, Refusal> {
+        match &self.differences {
+            None => cleatmow::unpack_complex_into(&self.template, self.declared, payload, points),
+            Some(differences) => {
+                cleatmow::unpack_spatial_into(&self.template, differences, self.declared, payload, points)
+            }
+        }
     }
 
     /// The points that the call answers, or its refusal.

@@ -30,12 +30,12 @@ mod bench {
     use std::hint::black_box;
     use std::time::Instant;
 
-    use cleatmow::maps::{self, ComplexMap, RunLengthMap, gust_differences, gust_numbers, gusts, rain};
     use cleatmow::{
-        GREATEST_LOOKAHEAD, GROUP_OCTETS, LEVEL_OCTETS, MOST_POINTS, NUMBER_OCTETS, POINT_OCTETS, Packing, Point,
-        SUMMARY_OCTETS, Section5, Summary, TemplateNumbers, groups_in, numbers_as_octets, pack, pack_into, points_in,
+        GREATEST_LOOKAHEAD, GROUP_OCTETS, Group, LEVEL_OCTETS, MOST_POINTS, NUMBER_OCTETS, POINT_OCTETS, Packing,
+        Point, Points, SUMMARY_OCTETS, Section5, Template, TemplateNumbers, numbers_as_octets, pack, pack_into,
         run_length, run_length_into, unpack_complex, unpack_complex_into, unpack_spatial, unpack_spatial_into,
     };
+    use oracle::maps::{self, ComplexMap, RunLengthMap, gust_differences, gust_numbers, gusts, rain};
     use oracle::{Outcome, Packed, Section7, rust_pack, rust_run_length, rust_unpack_complex, rust_unpack_spatial};
 
     /// A map of samples/, by its name.
@@ -155,9 +155,13 @@ mod bench {
         type Other;
         /// What the limit does and nothing else. None unless said: no limit is timed then.
         const LIMIT: Option<&'static str> = None;
+        /// Whether what stands in the lent buffers is read through the view too. Not unless said.
+        const IS_READ: bool = false;
 
         /// The C call, on the lent buffers.
         fn ours_lent(&mut self);
+        /// The same, and a pass over the view that it answers.
+        fn ours_read(&mut self) {}
         /// The host's wrapper, which lends buffers of its own and answers a list.
         fn ours_new(&self) -> Self::Answer;
         /// What ours is timed beside.
@@ -168,6 +172,10 @@ mod bench {
         /// What stands in the lent buffers.
         fn left(&self) -> Self::Answer;
         fn is_right(&self, answer: &Self::Answer) -> bool;
+        /// Whether the pass over the view has found what is there.
+        fn read_is_right(&self) -> bool {
+            true
+        }
         fn other_is_right(&self, answer: &Self::Other) -> bool;
         /// Whether the limit has done what it says.
         fn limit_is_right(&self) -> bool {
@@ -243,13 +251,25 @@ mod bench {
         /// The payload where the Rust looks for it.
         section: Section7,
         points: Vec<u8>,
+        /// What the pass over the view found: the sum of the numbers, and how many points are missing.
+        found: Option<(i64, usize)>,
     }
 
     impl Unpacking {
         fn new(map: ComplexMap) -> Self {
             let section = Section7::new(&map.payload);
             let points = vec![0; map.declared as usize * POINT_OCTETS];
-            Self { map, section, points }
+            Self { map, section, points, found: None }
+        }
+
+        fn lent(&mut self) -> Points<'_> {
+            let ComplexMap { ref template, ref differences, declared, ref payload, .. } = self.map;
+            let payload = black_box(payload);
+            match differences {
+                None => unpack_complex_into(template, declared, payload, &mut self.points),
+                Some(differences) => unpack_spatial_into(template, differences, declared, payload, &mut self.points),
+            }
+            .expect("a good map")
         }
     }
 
@@ -265,20 +285,27 @@ mod bench {
         }
     }
 
+    /// The sum of the numbers, and how many points are missing.
+    fn sum_and_missing(points: impl Iterator<Item = Point>) -> (i64, usize) {
+        points.fold((0, 0), |(sum, missing), point| match point.number() {
+            Some(number) => (sum + number, missing),
+            None => (sum, missing + 1),
+        })
+    }
+
     impl Operation for Unpacking {
         type Answer = Vec<Point>;
         type Other = Vec<Point>;
         const LIMIT: Option<&'static str> = Some("stores nine octets a point");
+        const IS_READ: bool = true;
 
         fn ours_lent(&mut self) {
-            let ComplexMap { ref template, ref differences, declared, ref payload, .. } = self.map;
-            let payload = black_box(payload);
-            match differences {
-                None => unpack_complex_into(template, declared, payload, &mut self.points),
-                Some(differences) => unpack_spatial_into(template, differences, declared, payload, &mut self.points),
-            }
-            .expect("a good map");
+            self.lent();
             black_box(&mut self.points);
+        }
+
+        fn ours_read(&mut self) {
+            self.found = black_box(Some(sum_and_missing(self.lent().iter())));
         }
 
         fn ours_new(&self) -> Vec<Point> {
@@ -311,11 +338,22 @@ mod bench {
         }
 
         fn left(&self) -> Vec<Point> {
-            points_in(&self.points).collect()
+            let number = |octets: &[u8]| i64::from_be_bytes(octets.try_into().expect("eight octets"));
+            let point = |octets: &[u8]| match octets[0] {
+                0 => Point::Number(number(&octets[1..])),
+                1 => Point::Missing1,
+                2 => Point::Missing2,
+                mark => panic!("a point with mark {mark}"),
+            };
+            self.points.chunks_exact(POINT_OCTETS).map(point).collect()
         }
 
         fn is_right(&self, points: &Vec<Point>) -> bool {
             *points == self.map.points
+        }
+
+        fn read_is_right(&self) -> bool {
+            self.found == Some(sum_and_missing(self.map.points.iter().copied()))
         }
 
         fn other_is_right(&self, points: &Vec<Point>) -> bool {
@@ -335,8 +373,8 @@ mod bench {
         groups: Vec<u8>,
         payload: Vec<u8>,
         summary: [u8; SUMMARY_OCTETS],
-        /// What the last call answered.
-        answered: Option<Summary>,
+        /// What the last call answered: the template numbers, how many groups, and how many octets of payload.
+        answered: Option<(Template, usize, usize)>,
     }
 
     impl List {
@@ -349,8 +387,8 @@ mod bench {
 
         fn lent(&mut self) {
             let Self { lookahead, octets, groups, payload, summary, .. } = self;
-            let answered = pack_into(*lookahead, black_box(octets), groups, payload, summary);
-            self.answered = Some(answered.expect("a good list"));
+            let packed = pack_into(*lookahead, black_box(octets), groups, payload, summary).expect("a good list");
+            self.answered = Some((packed.template, packed.groups.len(), packed.payload.len()));
             black_box((&mut self.groups, &mut self.payload));
         }
 
@@ -359,14 +397,21 @@ mod bench {
         }
 
         fn left(&self) -> Packing {
-            let Summary { template, group_count, payload_length } = self.answered.expect("a call before it");
-            let groups = groups_in(&self.groups[..group_count as usize * GROUP_OCTETS]).collect();
-            Packing { template, groups, payload: self.payload[..payload_length as usize].to_vec() }
+            let (template, groups, octets) = self.answered.expect("a call before it");
+            let number = |octets: &[u8]| u32::from_be_bytes(octets.try_into().expect("four octets"));
+            let group = |octets: &[u8]| Group {
+                start: number(&octets[..4]),
+                length: number(&octets[4..8]),
+                least: number(&octets[8..12]),
+                width: number(&octets[12..]),
+            };
+            let groups = self.groups[..groups * GROUP_OCTETS].chunks_exact(GROUP_OCTETS).map(group).collect();
+            Packing { template, groups, payload: self.payload[..octets].to_vec() }
         }
 
         /// The numbers and the octets that they are packed in; none yet before the first call.
         fn size(&self) -> (u32, usize) {
-            (self.numbers.len() as u32, self.answered.map_or(0, |answered| answered.payload_length as usize))
+            (self.numbers.len() as u32, self.answered.map_or(0, |(_, _, octets)| octets))
         }
     }
 
@@ -566,6 +611,10 @@ mod bench {
             return;
         }
         assert!(operation.is_right(&operation.ours_new()), "{name}: ours is wrong as a list");
+        if O::IS_READ {
+            operation.ours_read();
+            assert!(operation.read_is_right(), "{name}: ours is wrong through the view");
+        }
         time(name, &mut operation);
     }
 
@@ -579,12 +628,16 @@ mod bench {
 
     fn time<O: Operation>(name: &str, operation: &mut O) {
         drop(black_box(vec![1_u8; KEPT]));
-        let [mut lent, mut new, mut other, mut limit] = [const { Times(Vec::new()) }; 4];
+        let [mut lent, mut new, mut read, mut other, mut limit] = [const { Times(Vec::new()) }; 5];
         for _ in 0..REPETITIONS {
             lent.add(|| operation.ours_lent());
             other.add(|| operation.other());
             new.add(|| operation.ours_new());
             other.add(|| operation.other());
+            if O::IS_READ {
+                read.add(|| operation.ours_read());
+                other.add(|| operation.other());
+            }
             if O::LIMIT.is_some() {
                 limit.add(|| operation.limit());
                 other.add(|| operation.other());
@@ -594,6 +647,9 @@ mod bench {
         println!("{name}: {points} points in {octets} octets, nanoseconds a point");
         let new = new.report("ours, new list", points);
         let lent = lent.report("ours, lent buffer", points);
+        if O::IS_READ {
+            read.report("ours, through view", points);
+        }
         match operation.beside() {
             Beside::Rust(on) => {
                 let rust = other.report("Rust, new list", on);

@@ -1,23 +1,57 @@
-//! `desk unpack`, `desk pack` and `desk point`.
+//! `desk unpack`, `desk point`, `desk check`, `desk pack` and `desk split`.
 
-use crate::arguments::{Pack, Point};
-use crate::grid::Points;
-use crate::map::{self, Map};
-use crate::packing::{groups_on_site, shown_group, Packed};
+use crate::arguments::{Form, Pack, Point, Unpack};
+use crate::files;
+use crate::grid::{Grid, Laid, Typed};
+use crate::map::Map;
+use crate::packing::{check, Packed};
 use crate::progress::step;
-use crate::shown::{self, Number};
-use crate::trouble::Trouble;
-use cleatmow::{points_in, POINT_OCTETS};
+use crate::shown::{self, Number, NO_FORECAST};
+use crate::source::Sections;
+use crate::trouble::{Trouble, Why};
+use cleatmow::{Points, Section5};
 use std::io::{self, Write};
-use std::path::Path;
+use std::path::{Path, PathBuf};
 use std::sync::atomic::{AtomicUsize, Ordering};
 
-pub fn unpack(map: &Path, out: &mut impl Write) -> Result<(), Trouble> {
-    let octets = Map::from_files(map)?.points()?;
-    let (printed, all) = (AtomicUsize::new(0), shown::many(octets.len() / POINT_OCTETS, "point"));
+/// What is said of a map whose sections were not held against each other.
+const NOT_CHECKED: &str =
+    "not checked: whether Section 5 and Section 7 belong together; --lookahead K checks it for a \
+    cut-out that the desk packed with lookahead K";
+
+pub fn unpack(asked: &Unpack, out: &mut impl Write) -> Result<(), Trouble> {
+    let (map, mut lent) = (Map::named(&asked.map)?, Vec::new());
+    let points = checked_points(&map, asked.lookahead, &mut lent)?;
+    let grid = match asked.form {
+        Form::Table => Some(Laid::new(map.grid(asked.grid)?, points)?.grid),
+        Form::Numbers | Form::Marks => None,
+    };
+    note(&map.in_full());
+    note(&sections_are(&map, asked.lookahead));
+    match (grid, map.grid(Typed::default())) {
+        (Some(grid), _) => note(&grid.in_full()),
+        // Points in their order need no grid, and what a file says of it is not kept back.
+        (None, said) if map.is_of_one_message() => {
+            let said = said.map_or_else(|why| why.sentence().unwrap_or_default(), |grid| grid.in_full());
+            note(&format!("points in the order of the file: {said}"));
+        }
+        _ => {}
+    }
+    let (printed, all) = (AtomicUsize::new(0), shown::many(points.len(), "point"));
     let print = || -> io::Result<()> {
-        for point in points_in(&octets) {
-            writeln!(out, "{}", Number(point))?;
+        if grid.is_some() {
+            writeln!(out, "row,column,mark,number")?;
+        }
+        for (index, point) in (0..).zip(points) {
+            let (mark, number) = (point.mark(), Number(point, &asked.missing));
+            match (asked.form, grid.map(|grid: Grid| grid.place(index))) {
+                (_, Some(place)) => {
+                    let (row, column) = (u64::from(place.row) + 1, u64::from(place.column) + 1);
+                    writeln!(out, "{row},{column},{mark},{number}")?;
+                }
+                (Form::Marks, None) => writeln!(out, "{mark} {number}")?,
+                (_, None) => writeln!(out, "{number}")?,
+            }
             printed.fetch_add(1, Ordering::Relaxed);
         }
         out.flush()
@@ -26,41 +60,108 @@ pub fn unpack(map: &Path, out: &mut impl Write) -> Result<(), Trouble> {
     Ok(())
 }
 
-pub fn pack(pack: &Pack, out: &mut impl Write) -> Result<(), Trouble> {
-    let map = Map::from_files(&pack.map)?;
-    let points = Points::new(pack.grid, map.points()?)?;
-    let cut_out = points.cut_out(&pack.rectangle)?;
-    let packed = Packed::new(&cut_out, &pack.rectangle, pack.lookahead)?;
-    let (section5, section7) = (packed.section5(&map.physical), packed.section7()?);
-    let files = map::write(&pack.to, &section5, &section7)?;
-    let size = |points: &Points| format!("{}, {} points", points.grid, shown::count(points.grid.points()));
-    writeln!(out, "map       {}, {} octets", size(&points), shown::count(map.octets))?;
-    writeln!(out, "cut-out   {}: {}", pack.rectangle, size(&cut_out))?;
-    let octets = section5.len() as u64 + section7.len() as u64;
-    writeln!(
-        out,
-        "packed    {}, lookahead {}, {} octets",
-        shown::many(packed.groups.len(), "group"),
-        pack.lookahead,
-        shown::count(octets)
-    )?;
-    writeln!(out, "written   {}, {}", shown::path(&files[0]), shown::path(&files[1]))?;
-    Ok(())
+/// A line on standard error that is no error.
+fn note(sentence: &str) {
+    // Where it cannot be written, the results are what matters.
+    let _ = writeln!(io::stderr(), "desk: note: {sentence}");
 }
 
 pub fn point(asked: &Point, out: &mut impl Write) -> Result<(), Trouble> {
-    let map = Map::from_files(&asked.map)?;
-    let points = Points::new(asked.grid, map.points()?)?;
-    let point = points.at(asked.place)?;
-    let index = asked.grid.index(asked.place);
-    let groups = groups_on_site(&map, &points, asked.lookahead)?;
-    let group = groups.and_then(|groups| shown_group(&groups, index)).unwrap_or_else(|| {
-        format!("not known: the map is no packing of the desk's with lookahead {}", asked.lookahead)
-    });
-    writeln!(out, "number    {}", Number(point))?;
-    writeln!(out, "mark      {}", shown::mark(point))?;
-    let of = shown::count(asked.grid.points());
-    writeln!(out, "place     {}: point {} of {of}", asked.place, shown::count(index + 1))?;
-    writeln!(out, "group     {group}")?;
+    let (map, mut lent) = (Map::named(&asked.map)?, Vec::new());
+    let points = checked_points(&map, asked.lookahead, &mut lent)?;
+    let laid = Laid::new(map.grid(asked.grid)?, points)?;
+    let (point, index) = (laid.at(asked.place)?, laid.grid.index(asked.place));
+    line(out, "number", &Number(point, NO_FORECAST).to_string())?;
+    line(out, "mark", &point.mark().to_string())?;
+    line(out, "scale", &map.scale())?;
+    let of = shown::count(laid.grid.points());
+    line(out, "place", &format!("{}: point {} of {of}", asked.place, shown::count(index + 1)))?;
+    line(out, "grid", &laid.grid.in_full())?;
+    line(out, "map", &map.in_full())?;
+    line(out, "group", &map.group_of(index))?;
+    line(out, "pair", &sections_are(&map, asked.lookahead))
+}
+
+/// The points of a map, once it is checked where that is asked for.
+fn checked_points<'a>(map: &Map, lookahead: Option<u32>, lent: &'a mut Vec<u8>) -> Result<Points<'a>, Trouble> {
+    let points = map.points(lent)?;
+    if let Some(lookahead) = lookahead {
+        check(map, points, lookahead)?;
+    }
+    Ok(points)
+}
+
+/// What is known of the two sections of a map whose points were shown.
+pub fn sections_are(map: &Map, lookahead: Option<u32>) -> String {
+    match lookahead {
+        Some(lookahead) => format!("checked: packed again with lookahead {lookahead}, both sections are the same"),
+        None if map.is_of_one_message() => "not checked: both sections stand in one message".into(),
+        None => NOT_CHECKED.into(),
+    }
+}
+
+pub fn check_map(map: &Path, lookahead: u32, out: &mut impl Write) -> Result<(), Trouble> {
+    let (map, mut lent) = (Map::named(map)?, Vec::new());
+    checked_points(&map, Some(lookahead), &mut lent)?;
+    line(out, "map", &map.in_full())?;
+    line(out, "pair", &sections_are(&map, Some(lookahead)))
+}
+
+pub fn pack(asked: &Pack, out: &mut impl Write) -> Result<(), Trouble> {
+    let (map, mut lent) = (Map::named(&asked.map)?, Vec::new());
+    let laid = map.laid(asked.grid, &mut lent)?;
+    let cut_out = laid.cut_out(&asked.cut.of(laid.grid))?;
+    let packed = Packed::of(&cut_out, &map.physical, asked.lookahead)?;
+    let files = write(&asked.to, &packed.sections)?;
+    let mut print = || -> Result<(), Trouble> {
+        let octets = packed.sections.iter().map(|section| section.len() as u64).sum::<u64>();
+        line(out, "map", &map.in_full())?;
+        line(out, "grid", &laid.grid.in_full())?;
+        line(out, "pair", &sections_are(&map, None))?;
+        let (grid, lookahead) = (cut_out.grid(), asked.lookahead);
+        line(out, "cut-out", &format!("{}: {grid}, {}", cut_out.rectangle, shown::many(grid.points(), "point")))?;
+        let groups = shown::many(packed.groups, "group");
+        line(out, "packed", &format!("{groups}, lookahead {lookahead}, {} octets", shown::count(octets)))?;
+        line(out, "written", &files)?;
+        let Grid { columns, rows, .. } = grid;
+        line(out, "on site", &format!("read with --columns {columns} --rows {rows} --lookahead {lookahead}"))?;
+        out.flush()?;
+        Ok(())
+    };
+    print().map_err(|trouble| trouble.after(&files))
+}
+
+pub fn split(map: &Path, to: &Path, out: &mut impl Write) -> Result<(), Trouble> {
+    let Sections { name, place, names, octets, grid } = Sections::named(map)?;
+    let Some(grid) = grid else {
+        return Trouble::host(format!("{name} is two sections already"));
+    };
+    let section5 =
+        Section5::from_octets(&octets[0]).map_err(|why| Trouble::Own(Why::Host, format!("{}: {why}", names[0])))?;
+    let files = write(to, &octets)?;
+    let mut print = || -> Result<(), Trouble> {
+        let points = shown::many(section5.declared, "point");
+        line(out, "map", &format!("{name}{place}, template 5.{}, {points}", section5.template_number()))?;
+        let grid = match grid {
+            Ok(grid) => format!("{}; the two sections do not say it", Typed::default().held_to(grid, &name)?.in_full()),
+            Err(why) => format!("{why}: the two sections must not be read by row and column"),
+        };
+        line(out, "grid", &grid)?;
+        line(out, "written", &files)?;
+        out.flush()?;
+        Ok(())
+    };
+    print().map_err(|trouble| trouble.after(&files))
+}
+
+/// Writes two sections, and answers the names of their files.
+fn write(to: &Path, [section5, section7]: &[Vec<u8>; 2]) -> Result<String, Trouble> {
+    let files: [PathBuf; 2] = files::write(to, [section5, section7])?;
+    Ok(files.map(|file| shown::path(&file)).join(" and "))
+}
+
+/// A line of results, or more where it is long.
+pub fn line(out: &mut impl Write, what: &str, text: &str) -> Result<(), Trouble> {
+    writeln!(out, "{}", shown::after(&format!("{what:<10}"), text))?;
     Ok(())
 }

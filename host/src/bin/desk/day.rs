@@ -1,26 +1,23 @@
-//! `desk day`: a day at the desk on the three maps of samples/.
+//! `desk day`: a day at the desk on the three messages of samples/.
 
 use crate::arguments::LOOKAHEAD;
-use crate::grid::{Grid, Place, Points, Rectangle};
+use crate::grid::{CutOut, Laid, Place, Rectangle, Typed};
 use crate::map::Map;
-use crate::packing::{groups_on_site, shown_group, Packed};
+use crate::packing::{check, Packed};
 use crate::picture::Picture;
-use crate::shown::{self, Number};
-use crate::trouble::Trouble;
+use crate::shown::{self, Number, NO_FORECAST};
+use crate::source::Sections;
+use crate::trouble::{Trouble, Why};
 use cleatmow::Point;
 use std::io::Write;
 use std::ops::RangeInclusive;
 use std::path::Path;
 
-/// A map of samples/ and what the desk does with it. Rows and columns are counted from 1.
+/// A message of samples/ and what the desk does with it. Rows and columns are counted from 1.
 struct Sample {
     name: &'static str,
     /// What samples/README.md says that it is.
     what: &'static str,
-    /// Which way its rows go no section here says. One row fits the next this way and not the other, which a test holds.
-    grid: Grid,
-    /// Whether the first row is the southern one.
-    south_first: bool,
     /// A route none of whose points is missing.
     route: Route,
     /// A route whose field has no forecast.
@@ -38,24 +35,18 @@ const SAMPLES: [Sample; 3] = [
     Sample {
         name: "gfs-gust-144x73",
         what: "GFS, gust at the surface",
-        grid: Grid { columns: 144, rows: 73, alternate: false },
-        south_first: false,
         route: Route { rows: 15..=30, columns: 93..=124, field: (30, 103) },
         with_a_gap: None,
     },
     Sample {
         name: "ndfd-puerto-rico-339x224",
         what: "NDFD, greatest temperature of a day, Puerto Rico",
-        grid: Grid { columns: 339, rows: 224, alternate: true },
-        south_first: true,
         route: Route { rows: 86..=149, columns: 64..=191, field: (110, 130) },
         with_a_gap: Some(Route { rows: 86..=149, columns: 1..=128, field: (110, 1) }),
     },
     Sample {
         name: "ndfd-conus-1073x689",
-        what: "NDFD, greatest temperature of a day, continental United States",
-        grid: Grid { columns: 1073, rows: 689, alternate: true },
-        south_first: true,
+        what: "NDFD, greatest temperature of a day, United States",
         route: Route { rows: 253..=573, columns: 115..=705, field: (400, 400) },
         with_a_gap: None,
     },
@@ -79,95 +70,102 @@ impl Route {
 }
 
 pub fn day(samples: &Path, out: &mut impl Write) -> Result<(), Trouble> {
-    writeln!(out, "A day at the desk. Maps are columns x rows, and in pictures the north is at the top. Numbers are")?;
-    writeln!(out, "those that the centre packed; they are not scaled to metres a second or degrees.")?;
+    let head =
+        "A day at the desk. Maps are columns x rows, and in pictures the north is at the top. Numbers are those \
+                that the centre packed; they are not scaled to metres a second or degrees.";
+    writeln!(out, "{}", shown::after("", head))?;
     for sample in &SAMPLES {
-        let map = Map::from_files(&samples.join(sample.name))?;
-        let points = Points::new(sample.grid, map.points()?)?;
-        show_map(sample, &map, &points, out)?;
-        show_route(sample, &map, &points, out)?;
+        let map = Map::named(&samples.join(format!("{}.grib2", sample.name)))?;
+        let mut lent = Vec::new();
+        let laid = map.laid(Typed::default(), &mut lent)?;
+        show_map(sample, &map, laid, out)?;
+        show_route(sample, &map, laid, out)?;
         if let Some(route) = &sample.with_a_gap {
-            show_gap(sample, route, &points, out)?;
+            show_gap(&map, route, laid, out)?;
         }
         out.flush()?;
     }
     let (maps, gaps) = (SAMPLES.len(), SAMPLES.iter().flat_map(|sample| &sample.with_a_gap).count());
+    let summary = format!(
+        "The day: {maps} maps unpacked; {maps} cut-outs packed, and on site equal to the centre's; {gaps} not packed, \
+         since it has points without forecast."
+    );
     writeln!(out)?;
-    writeln!(
-        out,
-        "The day: {maps} maps unpacked; {maps} cut-outs packed, and on site equal to the centre's; {gaps} not packed,"
-    )?;
-    writeln!(out, "since it has points without forecast.")?;
+    writeln!(out, "{}", shown::after("", &summary))?;
     Ok(())
 }
 
-fn show_map(sample: &Sample, map: &Map, points: &Points, out: &mut impl Write) -> Result<(), Trouble> {
-    let missing = points.iter().filter(|point| !matches!(point, Point::Number(_))).count();
+fn show_map(sample: &Sample, map: &Map, laid: Laid, out: &mut impl Write) -> Result<(), Trouble> {
+    let missing = laid.points.iter().filter(|point| point.is_missing()).count();
     let missing = if missing == 0 { "none".into() } else { shown::count(missing as u64) };
-    let (grid, template) = (points.grid, map.template_number());
+    let points = shown::count(laid.grid.points());
     writeln!(out)?;
     writeln!(out, "{}: {}", sample.name, sample.what)?;
-    line(out, "map", &format!("{}, {missing} of them without forecast; template {template}", size(grid)))
+    indented(
+        out,
+        "map",
+        &format!("{points} points, {missing} of them without forecast; template {}", map.template_number()),
+    )?;
+    indented(out, "grid", &laid.grid.in_full())
 }
 
 /// The route's cut-out, from the centre to the site.
-fn show_route(sample: &Sample, map: &Map, points: &Points, out: &mut impl Write) -> Result<(), Trouble> {
-    let rectangle = sample.route.rectangle();
-    let cut_out = points.cut_out(&rectangle)?;
-    show_cut_out(sample, &rectangle, &cut_out, out)?;
+fn show_route(sample: &Sample, map: &Map, laid: Laid, out: &mut impl Write) -> Result<(), Trouble> {
+    let cut_out = laid.cut_out(&sample.route.rectangle())?;
+    show_cut_out(&cut_out, out)?;
 
-    let packed = Packed::new(&cut_out, &rectangle, LOOKAHEAD)?;
     // These two sections go to the site, and nothing else of the desk's does.
-    let (section5, section7) = (packed.section5(&map.physical), packed.section7()?);
-    let site_map = Map::from_sections(&format!("{} on site", sample.name), &section5, &section7)?;
-    let site = Points::new(rectangle.grid(), site_map.points()?)?;
-    let (before, after) = (shown::count(map.octets), shown::count(site_map.octets));
-    line(out, "octets", &format!("{before} before, the centre's map; {after} after, the packed cut-out"))?;
+    let Packed { sections: octets, .. } = Packed::of(&cut_out, &map.physical, LOOKAHEAD)?;
+    let name = format!("{} on site", sample.name);
+    let names = [name.clone(), name.clone()];
+    let site_map = Map::of(Sections { name, place: String::new(), names, octets, grid: None })?;
+    let mut lent = Vec::new();
+    let points = site_map.points(&mut lent)?;
+    check(&site_map, points, LOOKAHEAD)?;
+    let site = Laid::new(cut_out.grid(), points)?;
+    let (before, after) = (shown::count(map.octets()), shown::count(site_map.octets()));
+    indented(out, "octets", &format!("{before} before, the centre's map; {after} after, the packed cut-out"))?;
 
     let (field, field_on_site) = (sample.route.field(), sample.route.field_on_site());
-    let (at_centre, on_site) = (points.at(field)?, site.at(field_on_site)?);
-    line(out, "field", &format!("{field} of the map; {field_on_site} on site"))?;
+    let (at_centre, on_site) = (laid.at(field)?, site.at(field_on_site)?);
+    indented(out, "point", &format!("{field} of the map; {field_on_site} on site"))?;
     writeln!(out)?;
     writeln!(out, "             {:<16}on site", "at the centre")?;
-    show_both(out, "number", [Number(at_centre), Number(on_site)])?;
-    show_both(out, "mark", [at_centre, on_site].map(shown::mark))?;
+    show_both(out, "number", [at_centre, on_site].map(|point| Number(point, NO_FORECAST)))?;
+    show_both(out, "mark", [at_centre, on_site].map(Point::mark))?;
     writeln!(out)?;
-    if site != cut_out {
+    if !site.points.iter().eq(cut_out.points) {
         return Trouble::host(format!("the cut-out of {} is not on site what it is at the centre", sample.name));
     }
-    let groups = groups_on_site(&site_map, &site, LOOKAHEAD)?;
-    let group = groups.and_then(|groups| shown_group(&groups, site.grid.index(field_on_site)));
-    let Some(group) = group else {
-        return Trouble::host(format!("the cut-out of {}, packed again on site, has other octets", sample.name));
-    };
-    line(out, "on site", &format!("the field is in group {group}"))?;
-    line(out, "", &format!("all {} points are equal to the centre's", shown::count(site.grid.points())))
+    indented(out, "on site", &format!("packed again with lookahead {LOOKAHEAD}, both sections are the same"))?;
+    indented(out, "", &format!("all {} points are equal to the centre's", shown::count(site.grid.points())))?;
+    indented(out, "group", &site_map.group_of(site.grid.index(field_on_site)))
 }
 
 /// A cut-out that must not be packed. That the desk refuses it is a result of the day; that it packs it would be none.
-fn show_gap(sample: &Sample, route: &Route, points: &Points, out: &mut impl Write) -> Result<(), Trouble> {
-    let rectangle = route.rectangle();
-    let cut_out = points.cut_out(&rectangle)?;
-    let point = points.at(route.field())?;
+fn show_gap(map: &Map, route: &Route, laid: Laid, out: &mut impl Write) -> Result<(), Trouble> {
+    let cut_out = laid.cut_out(&route.rectangle())?;
+    let point = laid.at(route.field())?;
     writeln!(out)?;
-    show_cut_out(sample, &rectangle, &cut_out, out)?;
-    line(out, "field", &format!("{} of the map", route.field()))?;
+    show_cut_out(&cut_out, out)?;
+    indented(out, "point", &format!("{} of the map", route.field()))?;
     writeln!(out)?;
     writeln!(out, "             at the centre")?;
-    writeln!(out, "    number   {}", Number(point))?;
-    writeln!(out, "    mark     {}", shown::mark(point))?;
+    writeln!(out, "    number   {}", Number(point, NO_FORECAST))?;
+    writeln!(out, "    mark     {}", point.mark())?;
     writeln!(out)?;
-    match Packed::new(&cut_out, &rectangle, LOOKAHEAD) {
-        Err(Trouble::Host(sentence)) => line(out, "refused", &sentence),
+    match Packed::of(&cut_out, &map.physical, LOOKAHEAD) {
+        Err(Trouble::Own(Why::NoForecast, sentence)) => indented(out, "refused", &sentence),
         Err(trouble) => Err(trouble),
-        Ok(_) => Trouble::host(format!("a cut-out of {} with a missing point was packed", sample.name)),
+        Ok(_) => Trouble::host(format!("a cut-out of {} with a missing point was packed", map.name)),
     }
 }
 
-fn show_cut_out(sample: &Sample, rectangle: &Rectangle, cut_out: &Points, out: &mut impl Write) -> Result<(), Trouble> {
-    line(out, "cut-out", &format!("{rectangle}: {}", size(cut_out.grid)))?;
-    let Picture { mut lines, legend } = Picture::of(cut_out);
-    if sample.south_first {
+fn show_cut_out(cut_out: &CutOut, out: &mut impl Write) -> Result<(), Trouble> {
+    let grid = cut_out.grid();
+    indented(out, "cut-out", &format!("{}: {grid}, {} points", cut_out.rectangle, shown::count(grid.points())))?;
+    let Picture { mut lines, legend } = Picture::of(grid, &cut_out.points);
+    if grid.rows_go_up() {
         lines.reverse();
     }
     writeln!(out)?;
@@ -175,11 +173,7 @@ fn show_cut_out(sample: &Sample, rectangle: &Rectangle, cut_out: &Points, out: &
         writeln!(out, "    {line}")?;
     }
     writeln!(out)?;
-    line(out, "picture", &legend)
-}
-
-fn size(grid: Grid) -> String {
-    format!("{grid}, {} points", shown::count(grid.points()))
+    indented(out, "picture", &legend)
 }
 
 /// What something is at the centre and on site, and whether that is the same.
@@ -190,7 +184,7 @@ fn show_both<T: ToString>(out: &mut impl Write, what: &str, both: [T; 2]) -> Res
     Ok(())
 }
 
-fn line(out: &mut impl Write, what: &str, text: &str) -> Result<(), Trouble> {
-    writeln!(out, "  {what:<9}{text}")?;
+fn indented(out: &mut impl Write, what: &str, text: &str) -> Result<(), Trouble> {
+    writeln!(out, "{}", shown::after(&format!("  {what:<9}"), text))?;
     Ok(())
 }

@@ -1,11 +1,11 @@
-//! Rows, columns and rectangles. Grids are outside document 01, and no section that is read here says how many columns
-//! and rows a map has and which way its rows go: whoever runs the command says it. In this program the first row and
-//! the first column are 0. A person counts from 1: words of the command line are turned as they are read, places as
+//! Rows, columns and rectangles. Grids are outside document 01: a GRIB2 file says how many columns and rows a map has and
+//! which way its rows go, and for a map of two sections whoever runs the command says it. In this program the first row
+//! and the first column are 0. A person counts from 1: words of the command line are turned as they are read, places as
 //! they are written.
 
 use crate::shown;
 use crate::trouble::Trouble;
-use cleatmow::{points_in, Point, POINT_OCTETS};
+use cleatmow::{grib2, Point, Points};
 use std::fmt;
 use std::ops::Range;
 
@@ -16,6 +16,48 @@ pub struct Grid {
     pub rows: u32,
     /// Whether every second row, the first of all not among them, goes from the last column to the first.
     pub alternate: bool,
+    pub said: Said,
+}
+
+/// Who says what the grid is.
+#[derive(Clone, Copy, Debug, PartialEq, Eq)]
+pub enum Said {
+    /// The command line.
+    Words,
+    /// Section 3 of the map's message, by its scanning mode.
+    File { scanning: u8 },
+}
+
+/// What the command line says of a grid.
+#[derive(Clone, Copy, Debug, Default, PartialEq, Eq)]
+pub struct Typed {
+    pub columns: Option<u32>,
+    pub rows: Option<u32>,
+    pub alternate: bool,
+}
+
+impl Typed {
+    /// The grid of a map whose sections say none.
+    pub fn grid(self, name: &str) -> Result<Grid, Trouble> {
+        let missing = |option: &str| Trouble::host(format!("{option} is missing: {name} does not say its grid"));
+        let Some(columns) = self.columns else { return missing("--columns") };
+        let Some(rows) = self.rows else { return missing("--rows") };
+        Ok(Grid { columns, rows, alternate: self.alternate, said: Said::Words })
+    }
+
+    /// The grid that a file says, which words may say again and not otherwise.
+    pub fn held_to(self, grid: grib2::Grid, name: &str) -> Result<Grid, Trouble> {
+        let grib2::Grid { columns, rows, scanning, .. } = grid;
+        let alternate = scanning & grib2::Grid::ALTERNATE != 0;
+        let grid = Grid { columns, rows, alternate, said: Said::File { scanning } };
+        let other = |option: &str| Trouble::host(format!("{option} is not what {name} says: its grid is {grid}"));
+        match self {
+            Typed { columns: Some(columns), .. } if columns != grid.columns => other(&format!("--columns {columns}")),
+            Typed { rows: Some(rows), .. } if rows != grid.rows => other(&format!("--rows {rows}")),
+            Typed { alternate: true, .. } if !grid.alternate => other("--alternate"),
+            _ => Ok(grid),
+        }
+    }
 }
 
 impl Grid {
@@ -48,16 +90,33 @@ impl Grid {
     pub fn holds(self, rectangle: &Rectangle) -> Result<(), Trouble> {
         for (what, span, most) in [("row", &rectangle.rows, self.rows), ("column", &rectangle.columns, self.columns)] {
             if span.is_empty() || span.end > most {
-                return Trouble::host(format!("a map of {self} does not have {}", counted(what, span)));
+                return Trouble::host(format!("a map of {self}, does not have {}", counted(what, span)));
             }
         }
         Ok(())
+    }
+
+    /// Whether the file says that the first row is the lowest.
+    pub fn rows_go_up(self) -> bool {
+        matches!(self.said, Said::File { scanning } if scanning & grib2::Grid::UPWARD != 0)
+    }
+
+    /// All that was taken for granted where a row and a column are named.
+    pub fn in_full(self) -> String {
+        match self.said {
+            Said::Words => format!("{self}, as typed"),
+            Said::File { scanning } => {
+                let rows = if self.rows_go_up() { "upward" } else { "downward" };
+                format!("{self}, as the file says (scanning mode {scanning:#04x}: rows go {rows})")
+            }
+        }
     }
 }
 
 impl fmt::Display for Grid {
     fn fmt(&self, f: &mut fmt::Formatter<'_>) -> fmt::Result {
-        write!(f, "{} x {}", self.columns, self.rows)
+        let (columns, rows) = (shown::many(self.columns, "column"), shown::many(self.rows, "row"));
+        write!(f, "{columns} x {rows}, {}", if self.alternate { "alternate" } else { "not alternate" })
     }
 }
 
@@ -88,13 +147,8 @@ impl Rectangle {
         Rectangle { rows: one(place.row), columns: one(place.column) }
     }
 
-    /// The grid of its cut-out, all of whose rows go from the first column to the last.
-    pub fn grid(&self) -> Grid {
-        Grid { columns: self.columns.len() as u32, rows: self.rows.len() as u32, alternate: false }
-    }
-
     /// The place in the whole map of a place in this rectangle.
-    pub fn in_map(&self, place: Place) -> Place {
+    fn in_map(&self, place: Place) -> Place {
         Place { row: self.rows.start + place.row, column: self.columns.start + place.column }
     }
 }
@@ -114,49 +168,55 @@ fn counted(what: &str, span: &Range<u32>) -> String {
     }
 }
 
-/// The points of a map or of a cut-out, in the octets that unpacking leaves. Cutting out copies these octets, so a
-/// point is turned into nothing else on its way from unpacking to packing.
-#[derive(PartialEq, Eq)]
-pub struct Points {
+/// The points of a map, as unpacking leaves them, in their grid.
+#[derive(Clone, Copy)]
+pub struct Laid<'a> {
     pub grid: Grid,
-    pub octets: Vec<u8>,
+    pub points: Points<'a>,
 }
 
-impl Points {
+impl<'a> Laid<'a> {
     /// Refuses a grid that does not have as many points as there are.
-    pub fn new(grid: Grid, octets: Vec<u8>) -> Result<Points, Trouble> {
-        let points = octets.len() / POINT_OCTETS;
-        if grid.points() != points as u64 {
-            let (points, others) = (shown::count(points as u64), shown::count(grid.points()));
-            return Trouble::host(format!("the map has {points} points, and {grid} would be {others}"));
+    pub fn new(grid: Grid, points: Points<'a>) -> Result<Laid<'a>, Trouble> {
+        if grid.points() != points.len() as u64 {
+            let (points, others) = (shown::count(points.len() as u64), shown::count(grid.points()));
+            return Trouble::host(format!("the map has {points} points, and {grid}, would be {others}"));
         }
-        Ok(Points { grid, octets })
+        Ok(Laid { grid, points })
     }
 
-    pub fn cut_out(&self, rectangle: &Rectangle) -> Result<Points, Trouble> {
-        self.grid.holds(rectangle)?;
-        let mut octets = Vec::new();
-        for row in rectangle.rows.clone() {
-            for column in rectangle.columns.clone() {
-                octets.extend_from_slice(self.octets_at(Place { row, column }));
-            }
-        }
-        Points::new(rectangle.grid(), octets)
-    }
-
-    pub fn at(&self, place: Place) -> Result<Point, Trouble> {
+    pub fn at(self, place: Place) -> Result<Point, Trouble> {
         self.grid.holds(&Rectangle::of(place))?;
-        let mut point = points_in(self.octets_at(place));
-        point.next().map_or_else(|| Trouble::host(format!("there is no {place}")), Ok)
+        self.points
+            .get(self.grid.index(place) as usize)
+            .map_or_else(|| Trouble::host(format!("there is no {place}")), Ok)
     }
 
-    pub fn iter(&self) -> impl Iterator<Item = Point> + '_ {
-        points_in(&self.octets)
+    pub fn cut_out(self, rectangle: &Rectangle) -> Result<CutOut, Trouble> {
+        self.grid.holds(rectangle)?;
+        let places =
+            rectangle.rows.clone().flat_map(|row| rectangle.columns.clone().map(move |column| Place { row, column }));
+        let points = places.map(|place| self.at(place)).collect::<Result<_, _>>()?;
+        Ok(CutOut { map: self.grid, rectangle: rectangle.clone(), points })
+    }
+}
+
+/// A rectangle of a map. Its points go row by row, and all rows from the first column to the last.
+pub struct CutOut {
+    map: Grid,
+    pub rectangle: Rectangle,
+    pub points: Vec<Point>,
+}
+
+impl CutOut {
+    /// Its own grid.
+    pub fn grid(&self) -> Grid {
+        let Rectangle { rows, columns } = &self.rectangle;
+        Grid { columns: columns.len() as u32, rows: rows.len() as u32, alternate: false, ..self.map }
     }
 
-    /// The octets of a point that the grid has.
-    fn octets_at(&self, place: Place) -> &[u8] {
-        let first = self.grid.index(place) as usize * POINT_OCTETS;
-        &self.octets[first..first + POINT_OCTETS]
+    /// What a sentence calls the point that stands there in the cut-out's list.
+    pub fn named(&self, index: usize) -> String {
+        format!("{} of a map of {},", self.rectangle.in_map(self.grid().place(index as u64)), self.map)
     }
 }

@@ -1,19 +1,24 @@
-//! The wind desk's command. `desk --help` says what it does; `arguments.rs` has that text.
+//! The wind desk's command. `desk --help` says what it does; `help.rs` has that text.
 
 #![forbid(unsafe_code)]
 
 mod arguments;
 mod commands;
 mod day;
+mod files;
 mod grid;
+mod help;
+mod info;
 mod map;
+mod own_groups;
 mod packing;
 mod picture;
 mod progress;
 mod shown;
+mod source;
 mod trouble;
 
-use arguments::{Command, HELP};
+use arguments::Command;
 use std::io::{self, BufWriter, Write};
 use std::process::ExitCode;
 use trouble::Trouble;
@@ -30,11 +35,16 @@ fn main() -> ExitCode {
 fn run() -> Result<(), Trouble> {
     let mut out = BufWriter::new(io::stdout());
     match Command::from_words(std::env::args_os().skip(1))? {
-        Command::Help => out.write_all(HELP.as_bytes())?,
+        Command::Help(topic) => out.write_all(help::text(topic).as_bytes())?,
+        Command::Version => writeln!(out, "desk {}", env!("CARGO_PKG_VERSION"))?,
         Command::Day { samples } => day::day(&samples, &mut out)?,
-        Command::Unpack { map } => commands::unpack(&map, &mut out)?,
-        Command::Pack(pack) => commands::pack(&pack, &mut out)?,
+        Command::List { file } => info::list(&file, &mut out)?,
+        Command::Info { map, groups } => info::info(&map, groups, &mut out)?,
+        Command::Unpack(unpack) => commands::unpack(&unpack, &mut out)?,
         Command::Point(point) => commands::point(&point, &mut out)?,
+        Command::Check { map, lookahead } => commands::check_map(&map, lookahead, &mut out)?,
+        Command::Pack(pack) => commands::pack(&pack, &mut out)?,
+        Command::Split { map, to } => commands::split(&map, &to, &mut out)?,
     }
     out.flush()?;
     Ok(())

@@ -1,57 +1,71 @@
-//! A map: its Section 5 and its Section 7, each whole, as octets or as the two files NAME.s5 and NAME.s7.
+//! A map under template 5.2 or 5.3, of two whole sections.
 
+use crate::grid::{Grid, Laid, Typed};
+use crate::own_groups::{own_groups, OwnGroup};
 use crate::progress::step;
 use crate::shown;
-use crate::trouble::Trouble;
+use crate::source::Sections;
+use crate::trouble::{Trouble, Why};
+use cleatmow::grib2::{self, NoGrid};
 use cleatmow::{
-    unpack_complex_into, unpack_spatial_into, Differences, Physical, Section5, Template, TemplateNumbers, MOST_POINTS,
-    POINT_OCTETS,
+    lent_points, payload_of, unpack_complex_into, unpack_spatial_into, Differences, NotSection, Physical, Points,
+    Refusal, Section5, Template, TemplateNumbers,
 };
-use std::fs::{self, File};
-use std::io::{self, Read, Write};
-use std::path::{Path, PathBuf};
-
-/// The most octets that a file is read of. A map of as many points and groups as unpacking accepts has less than a
-/// quarter of them.
-const MOST_OCTETS: u64 = 1 << 28;
+use std::path::Path;
 
 pub struct Map {
-    name: String,
-    /// Of both sections.
-    pub octets: u64,
+    /// What sentences call it.
+    pub name: String,
+    /// Where in its file it stands; empty where it has files of its own.
+    place: String,
+    pub sections: [Vec<u8>; 2],
     declared: u32,
     pub template: Template,
     /// Without them it is under template 5.2, with them under 5.3.
     pub differences: Option<Differences>,
     pub physical: Physical,
-    pub payload: Vec<u8>,
+    grid: Option<Result<grib2::Grid, NoGrid>>,
 }
 
 impl Map {
-    pub fn from_files(name: &Path) -> Result<Map, Trouble> {
-        let [section5, section7] = files(name);
-        Map::from_sections(&shown::path(&stem(name)), &read(&section5)?, &read(&section7)?)
+    /// The map that a command is asked for.
+    pub fn named(name: &Path) -> Result<Map, Trouble> {
+        Map::of(Sections::named(name)?)
     }
 
-    /// The map of two sections. The name is for sentences about it.
-    pub fn from_sections(name: &str, section5: &[u8], section7: &[u8]) -> Result<Map, Trouble> {
-        let read = Section5::from_octets(section5).map_err(|why| Trouble::Host(format!("{name}.s5 {why}")))?;
-        let payload = payload_of(section7).map_err(|why| Trouble::Host(format!("{name}.s7 {why}")))?;
+    pub fn of(Sections { name, place, names, octets, grid }: Sections) -> Result<Map, Trouble> {
+        let other = |name: &str, why: NotSection| Trouble::Own(Why::Host, format!("{name}: {why}"));
+        let read = Section5::from_octets(&octets[0]).map_err(|why| other(&names[0], why))?;
+        payload_of(&octets[1]).map_err(|why| other(&names[1], why))?;
         match read.numbers {
             TemplateNumbers::Groups { template, differences, physical } => Ok(Map {
-                name: name.into(),
-                octets: section5.len() as u64 + section7.len() as u64,
+                name,
+                place,
+                sections: octets,
                 declared: read.declared,
                 template,
                 differences,
                 physical,
-                payload: payload.to_vec(),
+                grid,
             }),
             // A level may stand for a missing point, so it must not be shown as a number.
-            TemplateNumbers::RunLength { .. } => Trouble::host(format!(
-                "{name}.s5 is of template 5.200: what its levels stand for is not read here, so the desk shows none"
+            _ => Trouble::host(format!(
+                "{} is of template 5.{}: what its levels stand for is not read here, so the desk shows none",
+                names[0],
+                read.template_number()
             )),
         }
+    }
+
+    /// Whether both sections stand in one message.
+    pub fn is_of_one_message(&self) -> bool {
+        self.grid.is_some()
+    }
+
+    /// Its name, its place, its template and its size.
+    pub fn in_full(&self) -> String {
+        let Map { name, place, .. } = self;
+        format!("{name}{place}, template {}, {} octets", self.template_number(), shown::count(self.octets()))
     }
 
     pub fn template_number(&self) -> &'static str {
@@ -61,104 +75,103 @@ impl Map {
         }
     }
 
-    /// The points, in the octets that unpacking leaves.
-    pub fn points(&self) -> Result<Vec<u8>, Trouble> {
-        // Nothing is lent for more points than unpacking accepts: it refuses the count before it looks at the room.
-        let lent = if self.declared > MOST_POINTS { 0 } else { self.declared as usize };
-        let mut points = vec![0; lent * POINT_OCTETS];
-        let unpack = || match &self.differences {
-            None => unpack_complex_into(&self.template, self.declared, &self.payload, &mut points),
-            Some(differences) => {
-                unpack_spatial_into(&self.template, differences, self.declared, &self.payload, &mut points)
+    /// The octets of both sections.
+    pub fn octets(&self) -> u64 {
+        self.sections.iter().map(|section| section.len() as u64).sum()
+    }
+
+    fn payload(&self) -> &[u8] {
+        payload_of(&self.sections[1]).expect("it was read with its map")
+    }
+
+    /// The grid of its points: what its message says, and else what the words say.
+    pub fn grid(&self, typed: Typed) -> Result<Grid, Trouble> {
+        match self.grid {
+            None => typed.grid(&self.name),
+            Some(Ok(grid)) => typed.held_to(grid, &self.name),
+            // What it says may contradict the words, so none is believed.
+            Some(Err(why)) => Trouble::host(format!("{}: {why}", self.name)),
+        }
+    }
+
+    /// Its points, in octets of this list.
+    pub fn points<'a>(&self, lent: &'a mut Vec<u8>) -> Result<Points<'a>, Trouble> {
+        *lent = lent_points(self.declared);
+        let doing = || format!("unpacking {} points of {}", shown::count(self.declared), self.name);
+        step(doing, || match &self.differences {
+            None => unpack_complex_into(&self.template, self.declared, self.payload(), lent),
+            Some(differences) => unpack_spatial_into(&self.template, differences, self.declared, self.payload(), lent),
+        })
+        .map_err(|refusal| Trouble::Refused { what: self.name.clone(), refusal, found: self.found(refusal) })
+    }
+
+    /// Its points in their grid.
+    pub fn laid<'a>(&self, typed: Typed, lent: &'a mut Vec<u8>) -> Result<Laid<'a>, Trouble> {
+        let points = self.points(lent)?;
+        Laid::new(self.grid(typed)?, points)
+    }
+
+    /// Its own groups, where unpacking does not refuse it before it has looked at them.
+    pub fn groups(&self) -> impl Iterator<Item = OwnGroup> + '_ {
+        own_groups(&self.template, self.differences, self.payload())
+    }
+
+    /// The group that has the point at this place of the list, and which of the groups it is. Under 5.3 its reference and
+    /// width are those of differences.
+    pub fn group_of(&self, index: u64) -> String {
+        let has = |group: &OwnGroup| (group.start..group.start + group.length).contains(&index);
+        let groups = shown::count(self.template.groups);
+        let of = if self.differences.is_some() { ", of differences" } else { "" };
+        self.groups().find(has).map_or_else(
+            || format!("none of {groups}"),
+            |group| format!("{} of {groups}: {group}{of}", shown::count(u64::from(group.which) + 1)),
+        )
+    }
+
+    /// How Section 5 says that numbers become physical values. The desk leaves them as they were packed.
+    pub fn scale(&self) -> String {
+        let [reference @ .., binary_0, binary_1, decimal_0, decimal_1] = self.physical.scaling;
+        // A sign bit and a magnitude.
+        let signed = |octets: [u8; 2]| {
+            let number = i32::from(u16::from_be_bytes(octets));
+            if number < 0x8000 {
+                number
+            } else {
+                0x8000 - number
             }
         };
-        step(|| format!("unpacking {} points of {}", shown::count(self.declared), self.name), unpack)
-            .map_err(|refusal| Trouble::Refused { what: self.name.clone(), refusal })?;
-        Ok(points)
+        let (binary, decimal) = (signed([binary_0, binary_1]), signed([decimal_0, decimal_1]));
+        format!("not applied: ({} + number x 2^{binary}) / 10^{decimal}", f32::from_be_bytes(reference))
     }
-}
 
-/// The payload of a whole Section 7: what follows its header, which is its length in four octets and its number.
-fn payload_of(section: &[u8]) -> Result<&[u8], String> {
-    let count = section.len();
-    let Some(([length @ .., number], payload)) = section.split_first_chunk::<5>() else {
-        return Err(format!("is no Section 7: it has {count} octets, too few for its header"));
-    };
-    if *number != 7 {
-        return Err(format!("is no Section 7: its section number is {number}"));
-    }
-    let length = u32::from_be_bytes(*length);
-    if usize::try_from(length) != Ok(count) {
-        return Err(format!("is no whole Section 7: it says that it has {length} octets, and it has {count}"));
-    }
-    Ok(payload)
-}
-
-/// The Section 7 of a payload.
-pub fn section7_of(payload: &[u8]) -> Result<Vec<u8>, Trouble> {
-    match u32::try_from(payload.len() + 5) {
-        Ok(length) => Ok([&length.to_be_bytes(), &[7][..], payload].concat()),
-        Err(_) => Trouble::host("the payload is too long for a Section 7"),
-    }
-}
-
-/// Writes a map to its two files, or to none: neither may be there already, and where the second cannot be written the
-/// first is taken away again.
-pub fn write(name: &Path, section5: &[u8], section7: &[u8]) -> Result<[PathBuf; 2], Trouble> {
-    let files = files(name);
-    write_new(&files[0], section5)?;
-    write_new(&files[1], section7).inspect_err(|_| {
-        let _ = fs::remove_file(&files[0]);
-    })?;
-    Ok(files)
-}
-
-fn write_new(file: &Path, octets: &[u8]) -> Result<(), Trouble> {
-    let cannot = |error: io::Error| match error.kind() {
-        io::ErrorKind::AlreadyExists => {
-            Trouble::Host(format!("{} is there already, and the desk writes over no file", shown::path(file)))
+    /// What unpacking found in this map when it refused it, where that can be said.
+    fn found(&self, refusal: Refusal) -> String {
+        let template = &self.template;
+        match (refusal, self.differences) {
+            (Refusal::Splitting, _) => format!("splitting method is {}", template.splitting),
+            (Refusal::Management, _) => format!("missing management is {}", template.missing),
+            (Refusal::Order, Some(differences)) => format!("order is {}", differences.order),
+            (Refusal::Descriptors, Some(Differences { descriptor_octets, .. })) => {
+                format!("descriptor octets are {descriptor_octets}")
+            }
+            (Refusal::Width, _) => {
+                let Template { number_width, width_bits, length_bits, .. } = template;
+                format!("number width is {number_width}, width bits are {width_bits}, length bits are {length_bits}")
+            }
+            (Refusal::GroupCount, _) => format!("group count is {}", shown::count(template.groups)),
+            (Refusal::Short, _) => format!("the payload has {}", shown::many(self.payload().len(), "octet")),
+            (Refusal::GroupSize, _) => {
+                let too_large = |group: &OwnGroup| group.width > 31 || group.length > u64::from(u32::MAX);
+                self.groups().find(too_large).map_or_else(String::new, |OwnGroup { which, width, length, .. }| {
+                    let (group, length) = (shown::count(u64::from(which) + 1), shown::count(length));
+                    format!("group {group} has width {width} and length {length}")
+                })
+            }
+            (Refusal::Points, _) => {
+                let points = shown::many(self.groups().map(|group| group.length).sum::<u64>(), "point");
+                format!("the groups have {points}, and {} are declared", shown::count(self.declared))
+            }
+            _ => String::new(),
         }
-        _ => Trouble::Host(format!("{} cannot be written: {error}", shown::path(file))),
-    };
-    let mut new = File::create_new(file).map_err(cannot)?;
-    new.write_all(octets).map_err(|error| {
-        let _ = fs::remove_file(file);
-        cannot(error)
-    })
-}
-
-fn read(file: &Path) -> Result<Vec<u8>, Trouble> {
-    let cannot = |error: io::Error| Trouble::Host(format!("{} cannot be read: {error}", shown::path(file)));
-    let found = fs::metadata(file).map_err(cannot)?;
-    // What is no file, a pipe for one, may never end.
-    if !found.is_file() {
-        return Trouble::host(format!("{} is not a file", shown::path(file)));
-    }
-    if found.len() > MOST_OCTETS {
-        let most = shown::count(MOST_OCTETS);
-        return Trouble::host(format!("{} has more than {most} octets, and no map has so many", shown::path(file)));
-    }
-    let mut octets = Vec::new();
-    // One that grows meanwhile is read no further, and is then not as long as it says.
-    let mut opened = File::open(file).map_err(cannot)?.take(MOST_OCTETS);
-    step(|| format!("reading {}", shown::path(file)), || opened.read_to_end(&mut octets)).map_err(cannot)?;
-    Ok(octets)
-}
-
-/// NAME.s5 and NAME.s7.
-fn files(name: &Path) -> [PathBuf; 2] {
-    ["s5", "s7"].map(|section| {
-        let mut file = stem(name).into_os_string();
-        file.push(".");
-        file.push(section);
-        file.into()
-    })
-}
-
-/// A map's name. Either of its files names it too.
-fn stem(name: &Path) -> PathBuf {
-    match name.extension() {
-        Some(section) if section == "s5" || section == "s7" => name.with_extension(""),
-        _ => name.into(),
     }
 }

@@ -1,107 +1,98 @@
-//! From a cut-out to the octets that go to the site, and its groups.
+//! From points to the two sections that go to the site, and back: whether a map is what is packed of its own numbers.
 
-use crate::grid::{Points, Rectangle};
-use crate::map::{section7_of, Map};
+use crate::grid::CutOut;
+use crate::map::Map;
 use crate::progress::step;
-use crate::shown;
-use crate::trouble::Trouble;
+use crate::shown::{self, NO_FORECAST};
+use crate::trouble::{Trouble, Why};
 use cleatmow::{
-    groups_in, numbers_of_points, pack_into, Group, Physical, Point, Section5, Template, GREATEST_NUMBER, GROUP_OCTETS,
-    SUMMARY_OCTETS,
+    numbers_of_points, pack, section7_of, NoNumber, Physical, Points, Section5, GREATEST_LOOKAHEAD, GREATEST_NUMBER,
 };
 
-/// A cut-out, packed.
+/// Points, packed.
 pub struct Packed {
-    points: u32,
-    template: Template,
-    payload: Vec<u8>,
-    /// Packing's list. It stays at the desk: no section has it.
-    pub groups: Vec<Group>,
+    pub sections: [Vec<u8>; 2],
+    pub groups: usize,
 }
 
 impl Packed {
-    /// Packs a cut-out. The rectangle says where in the map it is.
-    pub fn new(cut_out: &Points, rectangle: &Rectangle, lookahead: u32) -> Result<Packed, Trouble> {
-        let numbers = numbers(cut_out, rectangle)?;
-        let count = cut_out.iter().count();
-        // Each group has a number at least, and ten octets a number and four more are always enough for the payload.
-        let mut groups = vec![0; count * GROUP_OCTETS];
-        let mut payload = vec![0; count * 10 + 4];
-        let mut summary = [0; SUMMARY_OCTETS];
-        let pack = || pack_into(lookahead, &numbers, &mut groups, &mut payload, &mut summary);
-        let summary = step(|| format!("packing {}", shown::many(count, "point")), pack)
-            .map_err(|refusal| Trouble::Refused { what: format!("the cut-out of {rectangle}"), refusal })?;
-        payload.truncate(summary.payload_length as usize);
-        groups.truncate(summary.group_count as usize * GROUP_OCTETS);
-        Ok(Packed { points: count as u32, template: summary.template, payload, groups: groups_in(&groups).collect() })
+    /// Packs a cut-out. Packing has no number for a missing point, whose number 0 would be wind on site; so where a
+    /// point is no number to pack, nothing is packed.
+    pub fn of(cut_out: &CutOut, physical: &Physical, lookahead: u32) -> Result<Packed, Trouble> {
+        let numbers = numbers_of_points(&cut_out.points).map_err(|found| not_packed(cut_out, found))?;
+        if let Some(place) = numbers.iter().position(|number| *number > GREATEST_NUMBER) {
+            return Err(not_packed(cut_out, NoNumber { place, point: cut_out.points[place] }));
+        }
+        Packed::of_numbers(&numbers, physical, lookahead, || format!("the cut-out of {}", cut_out.rectangle))
     }
 
-    /// Its Section 5. What becomes of the numbers outside Section 7 is said as in the map that it was cut out of.
-    pub fn section5(&self, physical: &Physical) -> Vec<u8> {
-        Section5::of_packing(self.points, &self.template, physical)
-    }
-
-    pub fn section7(&self) -> Result<Vec<u8>, Trouble> {
-        section7_of(&self.payload)
-    }
-
-    /// Whether a map is this packing.
-    fn is(&self, map: &Map) -> bool {
-        map.differences.is_none() && map.template == self.template && map.payload == self.payload
+    /// What becomes of the numbers outside Section 7 is said as in the map that they are of.
+    fn of_numbers(
+        numbers: &[u32],
+        physical: &Physical,
+        lookahead: u32,
+        name: impl Fn() -> String,
+    ) -> Result<Packed, Trouble> {
+        let packing = step(|| format!("packing {}", shown::many(numbers.len(), "point")), || pack(numbers, lookahead))
+            .map_err(|refusal| Trouble::Refused { what: name(), refusal, found: String::new() })?;
+        let section5 = Section5::of_packing(numbers.len() as u32, &packing.template, physical);
+        match section7_of(&packing.payload) {
+            Some(section7) => Ok(Packed { sections: [section5, section7], groups: packing.groups.len() }),
+            None => Trouble::host(format!("{} is too long for a Section 7", name())),
+        }
     }
 }
 
-/// The numbers of a cut-out as packing is given them. Packing has no number for a missing point, whose number 0 would
-/// be wind on site; so where a point is no number to pack, nothing is packed.
-fn numbers(cut_out: &Points, rectangle: &Rectangle) -> Result<Vec<u8>, Trouble> {
-    let refused = |index: usize, point: Point| {
-        let place = rectangle.in_map(cut_out.grid.place(index as u64));
-        let why = match point {
-            Point::Number(number) => {
-                format!("has number {number}, which is not 0 to {}", shown::count(GREATEST_NUMBER))
-            }
-            Point::Missing1 | Point::Missing2 => "has no forecast, and so no number to pack".into(),
-        };
-        Trouble::Host(format!("{place} {why}: the cut-out is not packed"))
+/// Why a cut-out is not packed, with the first point that has no number to pack.
+fn not_packed(cut_out: &CutOut, NoNumber { place, point }: NoNumber) -> Trouble {
+    let (why, has) = match point.number() {
+        None => (Why::NoForecast, "no forecast, and so no number to pack".into()),
+        Some(number) => {
+            let most = shown::count(GREATEST_NUMBER);
+            (Why::NoNumber, format!("number {number}, which is not 0 to {most}"))
+        }
     };
-    let packs = |point| matches!(point, Point::Number(number) if (0..=GREATEST_NUMBER.into()).contains(&number));
-    if let Some((index, point)) = cut_out.iter().enumerate().find(|(_, point)| !packs(*point)) {
-        return Err(refused(index, point));
-    }
-    numbers_of_points(&cut_out.octets).map_err(|found| refused(found.place, found.point))
+    Trouble::Own(why, format!("{} has {has}: the cut-out is not packed", cut_out.named(place)))
 }
 
-/// The groups of a packed map, by packing it again: that changes no octet of what was packed with this lookahead, and
-/// then packing's list is the one that it had at the desk. A map that was packed in another way has no list here.
-pub fn groups_on_site(map: &Map, points: &Points, lookahead: u32) -> Result<Option<Vec<Group>>, Trouble> {
-    match Packed::new(points, &points.grid.whole(), lookahead) {
-        Ok(again) if again.is(map) => Ok(Some(again.groups)),
-        Ok(_) | Err(Trouble::Host(_)) => Ok(None),
-        Err(refused) => Err(refused),
-    }
-}
-
-/// The group that has the point at this index, and which of the groups it is.
-pub fn group_of(groups: &[Group], index: u64) -> Option<(usize, &Group)> {
-    let has = |group: &Group| {
-        let start = u64::from(group.start);
-        (start..start + u64::from(group.length)).contains(&index)
+/// Whether a map is what the desk packs of the map's own numbers with this lookahead, octet by octet: of one that the desk
+/// packed so it is, since packing again changes no octet. `desk help check` says what that shows, and what it does not.
+pub fn check(map: &Map, points: Points, lookahead: u32) -> Result<(), Trouble> {
+    let other = |why: String| {
+        let so = "it is no cut-out that the desk packed so, or its Section 5 and its Section 7 do not belong together";
+        Err(Trouble::Own(Why::OtherPacking, format!("{} {why}: {so}", map.name)))
     };
-    groups.iter().enumerate().find(|(_, group)| has(group))
+    let numbers = match numbers_of_points(points) {
+        Ok(numbers) if numbers.is_empty() => return other("has no points".into()),
+        Ok(numbers) => numbers,
+        Err(NoNumber { place, point }) => {
+            let place = shown::count(place as u64 + 1);
+            let has = point.number().map_or(NO_FORECAST.into(), |number| format!("number {number}"));
+            return other(format!("has {has} at point {place}, which the desk does not pack"));
+        }
+    };
+    let again = match Packed::of_numbers(&numbers, &map.physical, lookahead, || map.name.clone()) {
+        Ok(Packed { sections, .. }) => [0, 1].map(|section| sections[section] == map.sections[section]),
+        Err(Trouble::Refused { .. }) => return other(format!("has a number above {}", shown::count(GREATEST_NUMBER))),
+        Err(trouble) => return Err(trouble),
+    };
+    let others = match again {
+        [true, true] => return Ok(()),
+        [true, false] => "another Section 7",
+        [false, true] => "another Section 5",
+        [false, false] => "two other sections",
+    };
+    other(format!("has {others} when it is packed again with lookahead {lookahead}"))
 }
 
-/// A group as a person reads it. Groups and points are counted from 1.
-pub fn shown_group(groups: &[Group], index: u64) -> Option<String> {
-    let (which, group) = group_of(groups, index)?;
-    let first = u64::from(group.start) + 1;
-    let last = u64::from(group.start) + u64::from(group.length);
-    Some(format!(
-        "{} of {}: points {} to {}, least number {}, width {}",
-        shown::count(which as u64 + 1),
-        shown::count(groups.len() as u64),
-        shown::count(first),
-        shown::count(last),
-        group.least,
-        group.width
-    ))
+/// The lookahead that packing takes. Its own refusal of any other comes before a file is read.
+pub fn lookahead_of(lookahead: u32) -> Result<u32, Trouble> {
+    match lookahead {
+        1..=GREATEST_LOOKAHEAD => Ok(lookahead),
+        _ => Err(Trouble::Refused {
+            what: format!("--lookahead {lookahead}"),
+            refusal: cleatmow::Refusal::Numbers,
+            found: String::new(),
+        }),
+    }
 }

@@ -1,6 +1,6 @@
 //! A small picture of a map in characters.
 
-use crate::grid::Points;
+use crate::grid::Grid;
 use cleatmow::Point;
 
 /// The most characters of a line, and the most lines.
@@ -21,22 +21,21 @@ pub struct Picture {
 impl Picture {
     /// A sign stands for one point, or for a block of points where there are too many. Of a block it shows the greatest
     /// number; and no forecast where any of its points has none, so that no gap is hidden.
-    pub fn of(points: &Points) -> Picture {
-        let grid = points.grid;
+    pub fn of(grid: Grid, points: &[Point]) -> Picture {
         let block = (grid.columns.div_ceil(MOST.0), grid.rows.div_ceil(MOST.1));
         let size = (grid.columns.div_ceil(block.0), grid.rows.div_ceil(block.1));
         let mut greatest = vec![vec![Some(i64::MIN); size.0 as usize]; size.1 as usize];
         let mut range = None;
-        for (index, point) in (0..).zip(points.iter()) {
+        for (index, point) in (0..).zip(points) {
             let place = grid.place(index);
             let sign = &mut greatest[(place.row / block.1) as usize][(place.column / block.0) as usize];
-            match point {
-                Point::Number(number) => {
+            match point.number() {
+                Some(number) => {
                     let (least, most) = range.unwrap_or((number, number));
                     range = Some((number.min(least), number.max(most)));
                     *sign = sign.map(|greatest| greatest.max(number));
                 }
-                Point::Missing1 | Point::Missing2 => *sign = None,
+                None => *sign = None,
             }
         }
         let missing = greatest.iter().flatten().any(Option::is_none);

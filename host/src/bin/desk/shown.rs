@@ -4,24 +4,21 @@ use cleatmow::Point;
 use std::fmt;
 use std::path::Path;
 
-/// A point's number. A missing point has none, whatever its octets hold: it is "no forecast".
-pub struct Number(pub Point);
+/// The most characters of a line.
+pub const COLUMNS: usize = 80;
 
-impl fmt::Display for Number {
+/// What is shown for a missing point where no other word is said.
+pub const NO_FORECAST: &str = "no forecast";
+
+/// A point's number. A missing point has none, whatever its octets hold: it is a word.
+pub struct Number<'a>(pub Point, pub &'a str);
+
+impl fmt::Display for Number<'_> {
     fn fmt(&self, f: &mut fmt::Formatter<'_>) -> fmt::Result {
-        match self.0 {
-            Point::Number(number) => f.pad(&number.to_string()),
-            Point::Missing1 | Point::Missing2 => f.pad("no forecast"),
+        match self.0.number() {
+            Some(number) => f.pad(&number.to_string()),
+            None => f.pad(self.1),
         }
-    }
-}
-
-/// A point's mark: 0 number, 1, 2.
-pub fn mark(point: Point) -> u8 {
-    match point {
-        Point::Number(_) => 0,
-        Point::Missing1 => 1,
-        Point::Missing2 => 2,
     }
 }
 
@@ -39,8 +36,9 @@ pub fn count(count: impl Into<u64>) -> String {
 }
 
 /// So many of these: "1 point", "2 points".
-pub fn many(how_many: usize, what: &str) -> String {
-    format!("{} {what}{}", count(how_many as u64), if how_many == 1 { "" } else { "s" })
+pub fn many(how_many: impl TryInto<u64>, what: &str) -> String {
+    let how_many = how_many.try_into().unwrap_or(u64::MAX);
+    format!("{} {what}{}", count(how_many), if how_many == 1 { "" } else { "s" })
 }
 
 pub fn path(path: &Path) -> String {
@@ -50,4 +48,25 @@ pub fn path(path: &Path) -> String {
 /// A text from outside within a sentence, which is one line whatever characters the text has.
 pub fn on_one_line(text: &str) -> String {
     text.chars().map(|shown| if shown.is_control() { '?' } else { shown }).collect()
+}
+
+/// A text after its heading, in lines of up to 80 characters. Its lines but the first begin below the text's first word.
+/// A word that is longer by itself is not parted.
+pub fn after(heading: &str, text: &str) -> String {
+    let (mut shown, indent) = (String::from(heading), heading.chars().count());
+    let mut length = indent;
+    for (place, word) in text.split(' ').enumerate() {
+        let word_length = word.chars().count();
+        if place > 0 && length + 1 + word_length > COLUMNS {
+            shown.push('\n');
+            shown.push_str(&" ".repeat(indent));
+            length = indent;
+        } else if place > 0 {
+            shown.push(' ');
+            length += 1;
+        }
+        shown.push_str(word);
+        length += word_length;
+    }
+    shown
 }

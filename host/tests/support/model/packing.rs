@@ -4,7 +4,8 @@
 //! the other, as two witnesses: a slip of one should not be a slip of both.
 
 use super::{field, template};
-use cleatmow::maps::Numbers;
+use crate::support::guarded;
+use crate::support::maps::Numbers;
 use cleatmow::{Group, Packing, Template};
 
 /// "Let bits(x) be the count of binary digits of x, 0 for 0."
@@ -129,6 +130,24 @@ pub fn answer(packing: Option<&Packing>, mut left: Left) -> (u32, Left) {
     left.payload[..packing.payload.len()].copy_from_slice(&packing.payload);
     left.summary[..40].copy_from_slice(&summary(packing));
     (0, left)
+}
+
+/// What the call answers, and leaves in the lent group list, payload and summary. Where views are answered, they are of
+/// the packing's groups and payload at the front of what was lent for them, and of nothing past them.
+pub fn call(lookahead: u32, numbers: &[u8], lent: [&mut [u8]; 3], right: Option<&Packing>) -> u32 {
+    let [groups, payload, summary] = lent;
+    let (groups_front, payload_front) = (groups.as_ptr(), payload.as_ptr());
+    match cleatmow::pack_into(lookahead, numbers, groups, payload, summary) {
+        Ok(packed) => {
+            let right = right.expect("numbers that are not refused");
+            guarded::hold_view(packed.groups, groups_front, right.groups.len());
+            assert!(packed.groups.iter().eq(right.groups.iter().copied()));
+            assert_eq!((packed.payload.as_ptr(), packed.payload), (payload_front, &right.payload[..]));
+            assert_eq!(packed.template, right.template);
+            0
+        }
+        Err(refusal) => refusal.number(),
+    }
 }
 
 /// "Packing's eight template numbers, in the order of the cases, the group count and the payload length"

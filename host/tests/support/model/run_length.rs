@@ -1,7 +1,9 @@
 //! Run-length as document 01 says it, written plainly, without care for speed. And what makes inputs for it.
 //! `oracle/src/runs.rs` says the same.
 
-use cleatmow::maps::Numbers;
+use crate::support::guarded;
+use crate::support::maps::Numbers;
+use cleatmow::LEVEL_OCTETS;
 
 /// What a call is given beside the lent buffer: b, M, the declared count and the payload.
 pub type Input<'a> = (u8, u16, u32, &'a [u8]);
@@ -54,6 +56,21 @@ pub fn answer((bits, max_level, declared, payload): Input, lent: &[u8]) -> (u32,
         place.copy_from_slice(&level.to_be_bytes());
     }
     (0, left)
+}
+
+/// What the call answers, and leaves in the octets. Where a view is answered, it is of the declared levels at the front
+/// of the octets, and of nothing past them.
+pub fn call((bits, max_level, declared, payload): Input, levels: &mut [u8]) -> u32 {
+    let front = levels.as_ptr();
+    match cleatmow::run_length_into(bits, max_level, declared, payload, levels) {
+        Ok(view) => {
+            guarded::hold_view(view, front, declared as usize);
+            let level = |octets: &[u8]| u16::from_be_bytes([octets[0], octets[1]]);
+            assert!(view.iter().eq(view.octets().chunks_exact(LEVEL_OCTETS).map(level)));
+            0
+        }
+        Err(refusal) => refusal.number(),
+    }
 }
 
 /// Codes of `bits` bits end to end, and zero bits to the end of the last octet.

@@ -151,9 +151,15 @@ fn ours_differs(input: &Input, document: Option<&Packing>) -> Option<String> {
             }
         }
     };
-    let ours = answered.map_or_else(|refusal| refusal.number(), |_| 0);
+    let (ours, viewed) = match answered {
+        Ok(packed) => (0, [packed.groups.octets().len(), packed.payload.len()]),
+        Err(refusal) => (refusal.number(), [0; 2]),
+    };
     if ours != number {
         return Some(format!("ours: {ours}; document 01: {number}"));
+    }
+    if ours == 0 && viewed != [written[0].len(), written[1].len()] {
+        return Some(format!("ours shows {viewed:?} octets of groups and payload, and not those of all"));
     }
     for (name, lent, written) in
         [("groups", &groups, &written[0]), ("payload", &payload, &written[1]), ("summary", &summary, &written[2])]

@@ -118,13 +118,19 @@ impl Judge {
             None => unpack_complex_into(template, *declared, payload, lent),
             Some(differences) => unpack_spatial_into(template, differences, *declared, payload, lent),
         };
-        let number = answered.map_or_else(|refusal| refusal.number(), |()| 0);
+        let (number, viewed) = match answered {
+            Ok(points) => (0, points.octets().len()),
+            Err(refusal) => (refusal.number(), 0),
+        };
         let right = match document {
             Ok(_) => 0,
             Err(number) => *number,
         };
         if number != right {
             return Some(format!("ours: {number}; document 01: {right}"));
+        }
+        if viewed != document.as_ref().map_or(0, |points| points.len() * POINT_OCTETS) {
+            return Some(format!("ours shows {viewed} octets of points, and not those of all"));
         }
         // 12 leaves number 0 and mark 0 in the declared places; any other refusal leaves all as it was.
         let written = match document {

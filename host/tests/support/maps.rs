@@ -1,7 +1,8 @@
-//! Sample maps and lists for benchmarks and comparisons: public for tests/ and for the programs of oracle/, and hidden
-//! from the documentation, since no host needs them. They are the same at every run and on every machine.
+//! Sample maps and lists for tests, and for the benchmarks and comparisons of oracle/, which takes this file from here.
+//! They are the same at every run and on every machine.
 
-use crate::{Differences, Point, Template, GREATEST_NUMBER};
+// Only what the formatters of both editions put in one order.
+use cleatmow::{Differences, Point, Template};
 
 /// A run-length map: what a call is given, and the levels that it must answer.
 pub struct RunLengthMap {
@@ -156,7 +157,7 @@ pub fn patches(numbers: u32) -> Vec<u32> {
 
 /// A list to pack, hard to group: 0 and the greatest number by turns.
 pub fn alternating(numbers: u32) -> Vec<u32> {
-    (0..numbers).map(|place| place % 2 * GREATEST_NUMBER).collect()
+    (0..numbers).map(|place| place % 2 * cleatmow::GREATEST_NUMBER).collect()
 }
 
 /// A list to pack, hard to group: each power of two, from 1 to 2^30, over and over.
@@ -174,7 +175,7 @@ pub fn spikes(numbers: u32) -> Vec<u32> {
 /// between. In a group of width 31 a look-ahead of 29 numbers is dear enough only with two bits each, so at every place
 /// it is looked ahead as far as the next greatest number.
 pub fn comb(numbers: u32) -> Vec<u32> {
-    (0..numbers).map(|place| if place % 29 == 0 { GREATEST_NUMBER } else { place % 2 }).collect()
+    (0..numbers).map(|place| if place % 29 == 0 { cleatmow::GREATEST_NUMBER } else { place % 2 }).collect()
 }
 
 impl ComplexMap {
