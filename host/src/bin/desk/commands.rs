@@ -28,14 +28,11 @@ pub fn unpack(asked: &Unpack, out: &mut impl Write) -> Result<(), Trouble> {
     };
     note(&map.in_full());
     note(&sections_are(&map, asked.lookahead));
-    match (grid, map.grid(Typed::default())) {
+    match (grid, map.grid_in_words()) {
         (Some(grid), _) => note(&grid.in_full()),
         // Points in their order need no grid, and what a file says of it is not kept back.
-        (None, said) if map.is_of_one_message() => {
-            let said = said.map_or_else(|why| why.sentence().unwrap_or_default(), |grid| grid.in_full());
-            note(&format!("points in the order of the file: {said}"));
-        }
-        _ => {}
+        (None, Some(said)) => note(&format!("points in the order of the file: {said}")),
+        (None, None) => {}
     }
     let (printed, all) = (AtomicUsize::new(0), shown::many(points.len(), "point"));
     let print = || -> io::Result<()> {

@@ -61,9 +61,8 @@ pub fn info(map: &Path, groups: bool, out: &mut impl Write) -> Result<(), Troubl
     line(out, "map", &map.in_full())?;
     line(out, "template", &template_numbers(&map))?;
     line(out, "scale", &map.scale())?;
-    if map.is_of_one_message() {
-        let grid = map.grid(Default::default());
-        line(out, "grid", &grid.map_or_else(|why| why.sentence().unwrap_or_default(), |grid| grid.in_full()))?;
+    if let Some(grid) = map.grid_in_words() {
+        line(out, "grid", &grid)?;
     }
     line(out, "pair", &sections_are(&map, None))?;
     line(out, "points", &shown::count(points.len() as u64))?;

@@ -94,6 +94,12 @@ impl Map {
         }
     }
 
+    /// What its message says of its grid, or why that is not read. Two files have no message.
+    pub fn grid_in_words(&self) -> Option<String> {
+        let grid = self.is_of_one_message().then(|| self.grid(Typed::default()))?;
+        Some(grid.map_or_else(|why| why.sentence().unwrap_or_default(), Grid::in_full))
+    }
+
     /// Its points, in octets of this list.
     pub fn points<'a>(&self, lent: &'a mut Vec<u8>) -> Result<Points<'a>, Trouble> {
         *lent = lent_points(self.declared);
