@@ -2,6 +2,7 @@
 
 use crate::*;
 use std::fs::File;
+use std::io::{stderr, Write};
 
 /// Files that are not what they should be.
 #[test]
@@ -215,4 +216,34 @@ fn room_for_half_a_map() {
         }
         assert!(!names.iter().any(|name| name == "cut.s5" || name == "cut.s7"), "{names:?}");
     }
+}
+
+/// A file system without links, here a tracer that lets them fail, where there is one: the same files are written, and
+/// none over another.
+#[test]
+fn files_without_links() {
+    let traced = |folder: &Path, program: &str, words: &[&str]| {
+        let fail = ["-f", "-o", "/dev/null", "-e", "inject=link,linkat:error=EPERM", program];
+        Command::new("strace").args(fail).args(words).current_dir(folder).stdin(Stdio::null()).output()
+    };
+    let folder = scratch("links");
+    if !traced(&folder, "true", &[]).is_ok_and(|ran| ran.status.success()) {
+        // Written past the test harness, which keeps what a test that passes prints.
+        stderr().write_all(b"not run: no strace to let links fail\n").unwrap();
+        return;
+    }
+    let (from, whole) = (GUST.words(), scratch("linked"));
+    results(&whole, &words(&format!("pack {from} --to cut")));
+    fs::write(folder.join("other.s7"), "kept").unwrap();
+    for (name, status) in [("cut", 0), ("cut", HOST), ("other", HOST)] {
+        let line = format!("pack {from} --to {name}");
+        let ran = Ran::from(traced(&folder, env!("CARGO_BIN_EXE_desk"), &words(&line)).unwrap());
+        assert_eq!(ran.status, Some(status), "{ran:?}");
+        assert_eq!(ran.err.contains("is there already, and the desk writes over no file"), status != 0, "{ran:?}");
+        assert_eq!(names_in(&folder), ["cut.s5", "cut.s7", "other.s7"]);
+    }
+    for file in ["cut.s5", "cut.s7"] {
+        assert_eq!(fs::read(folder.join(file)).unwrap(), fs::read(whole.join(file)).unwrap());
+    }
+    assert_eq!(fs::read(folder.join("other.s7")).unwrap(), b"kept");
 }
