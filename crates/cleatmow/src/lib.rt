@@ -1,17 +1,20 @@
 // The C calls: each a few lines over the crates below. include/cleatmow.h declares them. A contract can name no underscore,
 // so the names of the header are shortened here.
 ghost use mathlib.Core.Path.{_≡_};
-ghost use Rattle.format.specs.Refusals.{refusalNumber, unpackedNumber, unrolledNumber, left};
+ghost use Rattle.format.specs.Refusals.{refusalNumber, fetchedNumber, storedNumber, unpackedNumber, unrolledNumber, left};
 ghost use Rattle.format.specs.Template.{templateBy};
 ghost use Rattle.format.specs.Unpacking.{unpack52};
 ghost use Rattle.format.specs.Differences.{unpack53};
+ghost use Rattle.format.specs.Section5.{readSection5, writeSection5, unpackSection5};
 ghost use Rattle.format.specs.RunLength.{runLength};
 ghost use Rattle.format.specs.Layout.{numbersIn};
 ghost use Rattle.format.specs.Packing.{pack};
 ghost use Rattle.cleatmow.specs.Calls.{called, givenDifferencing, calledPack};
 use format::Differencing;
+use format::Fetched;
 use format::Packed;
 use format::Refusal;
+use format::Stored;
 use format::Unpacked;
 use format::Unrolled;
 
@@ -33,6 +36,7 @@ pub fn refusal_number(refusal: Refusal) -> u32
         Refusal::Repeat => 11,
         Refusal::Beyond => 12,
         Refusal::Numbers => 13,
+        Refusal::Section5 => 14,
     }
 }
 
@@ -115,6 +119,36 @@ pub extern "C" fn cleatmow_unpack_spatial(
     );
     let differencing = Differencing { order, octets };
     unpacked_number(decoder::unpack_spatial(template, differencing, declared, payload, points))
+}
+
+// Section 5's fields, four octets each, one for each row of its table.
+#[no_mangle]
+pub extern "C" fn cleatmow_read_section5(section5: &[u8], fields: &mut [u8]) -> u32
+    ensures { λ r. ⌜ left r (now (fields .exit)) ≡ called fetchedNumber (readSection5 (now (section5 .entry)) (now (fields .entry))) ⌝ }
+{
+    match section5::read_section5(section5, fields) {
+        Fetched::Done => 0,
+        Fetched::Refused(refusal) => refusal_number(refusal),
+    }
+}
+
+// Section 5 of such fields.
+#[no_mangle]
+pub extern "C" fn cleatmow_write_section5(fields: &[u8], section5: &mut [u8]) -> u32
+    ensures { λ r. ⌜ left r (now (section5 .exit)) ≡ called storedNumber (writeSection5 (numbersIn (now (fields .entry))) (now (section5 .entry))) ⌝ }
+{
+    match section5::write_section5(fields, section5) {
+        Stored::Span(_) => 0,
+        Stored::Refused(refusal) => refusal_number(refusal),
+    }
+}
+
+// The points of a payload under the template that Section 5 names, nine octets each.
+#[no_mangle]
+pub extern "C" fn cleatmow_unpack(section5: &[u8], payload: &[u8], points: &mut [u8]) -> u32
+    ensures { λ r. ⌜ left r (now (points .exit)) ≡ called unpackedNumber (unpackSection5 (now (section5 .entry)) (now (payload .entry)) (now (points .entry))) ⌝ }
+{
+    unpacked_number(decoder::unpack(section5, payload, points))
 }
 
 // Template 7.200: the levels of a payload, two octets each.

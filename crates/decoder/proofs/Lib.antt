@@ -1,3 +1,4 @@
 pub mod Located
 pub mod Restoring
 pub mod Spatial
+pub mod Named

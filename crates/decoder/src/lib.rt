@@ -1,5 +1,5 @@
 // Unpacking under 5.2 and 5.3: what is left to decide once the parts are found, then the points, and under 5.3 their numbers
-// restored.
+// restored; and unpacking under the one of the two that Section 5 names.
 ghost use mathlib.Core.Path.{_≡_};
 ghost use mathlib.Core.List.{List};
 ghost use Prim.Native.Nat.{_*_, _≤_};
@@ -8,12 +8,14 @@ ghost use Rattle.format.specs.Refusals.{limit, left};
 ghost use Rattle.format.specs.Layout.{pointSize};
 ghost use Rattle.format.specs.Unpacking.{unpack52};
 ghost use Rattle.format.specs.Differences.{descriptorsOf, restoredFrom, left53, unpack53};
+ghost use Rattle.format.specs.Section5.{unpackSection5};
 ghost use Rattle.format.specs.declared.DecodedValue.{DecodedValue};
 ghost use Rattle.diff.specs.Restoring.{Orderly, Holding};
 ghost use Rattle.decoder.specs.Deciding.{decidedIn};
 use format::DecodedValue;
 use format::Differencing;
 use format::Located;
+use format::Named;
 use format::Refusal;
 use format::Template;
 use format::Unpacked;
@@ -91,6 +93,19 @@ pub fn unpack_spatial(
         Located::At(places, _) => {
             complex::store_points(template, payload, places, points);
             unpack_differences(differencing, declared, payload, points)
+        }
+    }
+}
+
+// Unpacking under the template that Section 5 names.
+pub fn unpack(section5: &[u8], payload: &[u8], points: &mut [u8]) -> Unpacked
+    ensures { λ r. ⌜ left r (now (points .exit)) ≡ unpackSection5 (now (section5 .entry)) (now (payload .entry)) (now (points .entry)) ⌝ }
+{
+    match section5::named(section5) {
+        Named::Refused(refusal) => Unpacked::Refused(refusal),
+        Named::Complex(declared, template) => unpack_complex(template, declared, payload, points),
+        Named::Spatial(declared, template, differencing) => {
+            unpack_spatial(template, differencing, declared, payload, points)
         }
     }
 }

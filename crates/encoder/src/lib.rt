@@ -38,18 +38,6 @@ fn store_groups(numbers: &[u8], lookahead: usize, added: usize, groups: &mut [u8
     Grouped::Groups(k as u32)
 }
 
-// Numbers of four octets each.
-fn store_numbers(numbers: &[u32], octets: &mut [u8])
-    requires { ⌜ length (now numbers) * numberSize ≤ length (now octets) ⌝ }
-    ensures { λ _. ⌜ now (octets .exit) ≡ inFours (now (numbers .entry)) over now (octets .entry) ⌝ }
-{
-    let mut k = 0usize;
-    while k < numbers.len() {
-        layout::store_number(octets, k, numbers[k]);
-        k += 1;
-    }
-}
-
 // "Packing's eight template numbers, in the order of the cases, the group count and the payload length go to a lent 40 octets"
 fn store_summary(template: Template, octets: OctetPlace, summary: &mut [u8])
     requires { ⌜ (summarySize ≤ length (now summary)) × (octets .0 < 2 ^ 32) ⌝ }
@@ -69,7 +57,7 @@ fn store_summary(template: Template, octets: OctetPlace, summary: &mut [u8])
         template.groups,
         octets.0 as u32,
     ];
-    store_numbers(&numbers, summary);
+    layout::store_numbers(&numbers, summary);
 }
 
 // Payload and summary of the groups that are stored, with their template.

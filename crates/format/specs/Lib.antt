@@ -8,6 +8,7 @@ pub mod Differences
 pub mod RunLength
 pub mod Grouping
 pub mod Packing
+pub mod Section5
 pub mod Seen
 pub mod Cases
 pub mod Sentences

@@ -5,7 +5,7 @@ use mathlib.Core.List.{List, [], _∷_}
 use lib.Dec.{eqb, ltb}
 use Rattle.format.specs.Lists.{wholeOnes}
 use Rattle.format.specs.declared.Refusal.{Refusal}
-use Rattle.format.specs.declared.Refusal.the-variants.{Splitting, Management, Order, Descriptors, Width, GroupCount, Short, GroupSize, Points, Room, Repeat, Beyond, Numbers}
+use Rattle.format.specs.declared.Refusal.the-variants.{Splitting, Management, Order, Descriptors, Width, GroupCount, Short, GroupSize, Points, Room, Repeat, Beyond, Numbers, Section5}
 use Rattle.format.specs.declared.Fetched.{Fetched}
 use Rattle.format.specs.declared.Fetched.the-variants as fetched
 use Rattle.format.specs.declared.Stored.{Stored}
@@ -36,6 +36,7 @@ refusalNumber Room = 10
 refusalNumber Repeat = 11
 refusalNumber Beyond = 12
 refusalNumber Numbers = 13
+refusalNumber Section5 = 14
 
 -- "Given when": a row is a test, and the refusal that is given when it holds
 pub data Row : Type 0 where

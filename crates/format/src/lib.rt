@@ -1,6 +1,8 @@
-// The plain types that document 01 speaks of. What they mean stands in specs/, a file for each heading of the document.
+// The plain types that documents 01 and 02 speak of. What they mean stands in specs/, a file for each heading of document 01
+// and for what document 02 adds.
 
-// "What each number says": a case for each row of the table. `refusalNumber` of specs/Refusals.antt has the numbers.
+// "What each number says": a case for each row of the table, and 14 of document 02. `refusalNumber` of specs/Refusals.antt
+// has the numbers.
 pub enum Refusal {
     Splitting,
     Management,
@@ -15,6 +17,7 @@ pub enum Refusal {
     Repeat,
     Beyond,
     Numbers,
+    Section5,
 }
 
 // "4,194,304": no more groups, points or numbers than that. `limit` of specs/Refusals.antt is the same.
@@ -139,5 +142,25 @@ pub enum Grouped {
 // What packing answers: the template numbers, the group count among them, and the payload's length.
 pub enum Packed {
     Payload(Template, OctetPlace),
+    Refused(Refusal),
+}
+
+// Document 02, No. 1: "one row a field with its first octet and size".
+pub struct Row {
+    pub first: usize,
+    pub size: usize,
+}
+
+// What refusal 14 looks at in Section 5, besides how much of it is lent: its length, its section number and its template.
+pub struct Head {
+    pub length: u32,
+    pub number: u32,
+    pub template: u32,
+}
+
+// What Section 5 names: the declared points, and the numbers of template 5.2 or of template 5.3.
+pub enum Named {
+    Complex(u32, Template),
+    Spatial(u32, Template, Differencing),
     Refused(Refusal),
 }

@@ -19,3 +19,4 @@ pub mod Groups
 pub mod Parts
 pub mod Saying
 pub mod Codings
+pub mod Section5

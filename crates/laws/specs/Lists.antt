@@ -46,10 +46,23 @@ module _ {A : Type 0} where
   listed-same zero x = refl
   listed-same (suc n) x = ap (λ (l : List A). x ∷ l) (listed-same n x)
 
+-- the first n of a list
+pub listed-front : {A : Type 0} (xs : List A) (d : A) (n : ℕ) → n ≤ length xs → listed n (λ k. getD xs k d) ≡ take n xs
+unfolding listed
+listed-front xs d zero h = refl
+listed-front [] d (suc n) h = absurd (omega arith)
+listed-front {A} (x ∷ xs) d (suc n) h = ap (λ (l : List A). x ∷ l) (listed-front xs d n (omega arith))
+
 pub map-listed : {A B : Type 0} (g : A → B) (n : ℕ) (f : ℕ → A) → map g (listed n f) ≡ listed n (λ i. g (f i))
 unfolding listed
 map-listed g zero f = refl
 map-listed {B = B} g (suc n) f = ap (λ (l : List B). g (f 0) ∷ l) (map-listed g n (λ i. f (suc i)))
+
+pub take-map : {A B : Type 0} (f : A → B) (n : ℕ) (xs : List A) → take n (map f xs) ≡ map f (take n xs)
+unfolding map
+take-map f zero xs = refl
+take-map f (suc n) [] = refl
+take-map {B = B} f (suc n) (x ∷ xs) = ap (λ (l : List B). f x ∷ l) (take-map f n xs)
 
 pub length-map : {A B : Type 0} (f : A → B) (xs : List A) → length (map f xs) ≡ length xs
 length-map f [] = refl
@@ -100,6 +113,10 @@ pub either-left : (a b : Bool) → (a || b) ≡ false → a ≡ false
 either-left true b e = e
 either-left false b e = refl
 
+pub either-right : (a b : Bool) → (a || b) ≡ false → b ≡ false
+either-right true b e = absurd (false≢true (sym e))
+either-right false b e = e
+
 module _ {A : Type 0} (f : A → Bool) where
   pub any-here : (xs : List A) (d : A) (k : ℕ) → k < length xs → f (getD xs k d) ≡ true → anyOf f xs ≡ true
   unfolding anyOf
@@ -112,10 +129,6 @@ module _ {A : Type 0} (f : A → Bool) where
   any-none [] d h k l = absurd (not-suc-le-zero l)
   any-none (x ∷ xs) d h zero l = either-left (f x) (anyOf f xs) h
   any-none (x ∷ xs) d h (suc k) l = any-none xs d (either-right (f x) (anyOf f xs) h) k (omega arith)
-    where
-      either-right : (a b : Bool) → (a || b) ≡ false → b ≡ false
-      either-right true b e = absurd (false≢true (sym e))
-      either-right false b e = e
 
   pub any-not : (xs : List A) (d : A) → ((k : ℕ) → k < length xs → f (getD xs k d) ≡ false) → anyOf f xs ≡ false
   unfolding anyOf

@@ -8,9 +8,10 @@ use native.Mathlib.Omega.{arith}
 use lib.ListN.{length, getD, set, length-append, List·getD-append}
 use lib.Pow.{pow-add}
 use lib.Seq.{sets, sets-eq, take-at, drop-at, drop-append-add, getD-append-add}
-use Rattle.format.specs.Lists.{listed, _over_}
+use Rattle.format.specs.Lists.{listed, wholeOnes, _over_}
 use Rattle.format.specs.Bits.{numberOf, numberAt}
-use Rattle.laws.specs.Lists.{length-listed, listed-more}
+use Rattle.format.specs.Layout.{numberSize, numbersIn}
+use Rattle.laws.specs.Lists.{length-listed, getD-listed, listed-more}
 use Rattle.laws.specs.Bits.{number-octet}
 
 -- ---- `sets`: elements stored one after another from a place on
@@ -96,3 +97,9 @@ module _ (octets : List ℕ) (at n x : ℕ) (there : (i : ℕ) → i < n → get
 
   pub number-back : numberAt octets (at * 8) (n * 8) ≡ x
   number-back = first-octets n (omega arith) ∙ rw (sub-self n, pow-zero, div-one x)
+
+-- number k of those that octets hold, four each
+pub number-listed : (octets : List ℕ) (k : ℕ) → k < wholeOnes numberSize octets → numberAt octets (k * 32) 32 ≡ getD (numbersIn octets) k 0
+number-listed octets k l =
+    let number : ℕ → ℕ = λ i. numberAt octets (0 + i * 32) 32 in
+    ap (λ (p : ℕ). numberAt octets p 32) (sym (zero-add (k * 32))) ∙ sym (getD-listed (wholeOnes numberSize octets) number 0 k l)

@@ -5,7 +5,8 @@ ghost use Prim.Native.Nat.{_+_, _*_, _<_, _≤_};
 ghost use lib.ListN.{length, getD};
 ghost use lib.Seq.{sets};
 ghost use Rattle.format.specs.Bits.{numberAt};
-ghost use Rattle.format.specs.Layout.{bigEndian, numberSize, levelSize, levelOctets, pointSize, pointOctets, markOf, heldBy, twosComplement, groupSize, groupOctets};
+ghost use Rattle.format.specs.Lists.{_over_};
+ghost use Rattle.format.specs.Layout.{bigEndian, inFours, numberSize, levelSize, levelOctets, pointSize, pointOctets, markOf, heldBy, twosComplement, groupSize, groupOctets};
 ghost use Rattle.format.specs.Template.{templateBy};
 ghost use Rattle.laws.specs.Groups.{groupIn};
 use format::DecodedValue;
@@ -19,7 +20,7 @@ use format::Template;
 use format::Widths;
 
 // Stores x from a place on, in n octets.
-fn store(octets: &mut [u8], at: usize, x: u64, n: usize)
+pub fn store(octets: &mut [u8], at: usize, x: u64, n: usize)
     requires { ⌜ (n ≤ 8) × (at + n ≤ length (now octets)) ⌝ }
     ensures { λ _. ⌜ now (octets .exit) ≡ sets (now (octets .entry)) at (bigEndian n x) ⌝ }
 {
@@ -65,6 +66,18 @@ pub fn number_in(octets: &[u8], k: usize) -> u32
     ensures { λ r. ⌜ r ≡ numberAt (now (octets .entry)) (k * 32) 32 ⌝ }
 {
     four_at(octets, k * NUMBER_SIZE)
+}
+
+// Numbers of four octets each.
+pub fn store_numbers(numbers: &[u32], octets: &mut [u8])
+    requires { ⌜ length (now numbers) * numberSize ≤ length (now octets) ⌝ }
+    ensures { λ _. ⌜ now (octets .exit) ≡ inFours (now (numbers .entry)) over now (octets .entry) ⌝ }
+{
+    let mut k = 0usize;
+    while k < numbers.len() {
+        store_number(octets, k, numbers[k]);
+        k += 1;
+    }
 }
 
 // "each of a group's four numbers take four octets": group k, from number 4·k on.

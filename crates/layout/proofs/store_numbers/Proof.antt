@@ -1,11 +1,11 @@
--- `encoder::store_numbers` meets its contract. Assumes nothing.
+-- `layout::store_numbers` meets its contract. Assumes nothing.
 use mathlib.Core.Path.{refl}
 use Prim.Native.Nat.{_-_}
 use lib.ListN.{length}
 use borrow.Author.Needs.{needs}
-use Rattle.encoder.proofs.Storing.{NumbersStored, stored-none, stored-more, stored-all}
-use Rattle.encoder.proofs.store_numbers.Statement.{statement}
-use Rattle.encoder.proofs.store_numbers.Tie as tie
+use Rattle.layout.proofs.Numbers.{NumbersStored, stored-none, stored-more, stored-all}
+use Rattle.layout.proofs.store_numbers.Statement.{statement}
+use Rattle.layout.proofs.store_numbers.Tie as tie
 
 abbrev Inv-loop : tie.InvT-loop
 Inv-loop numbers octets₀ k₀ octets k = NumbersStored numbers octets₀ octets k

@@ -1,0 +1,4 @@
+pub mod Rows
+pub mod Answers
+pub mod Writing
+pub mod Claims
