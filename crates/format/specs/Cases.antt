@@ -1,7 +1,8 @@
--- Document 01, "Cases": one list with one claim. Assumes nothing.
+-- Document 01, "Cases", and cases of document 02's requests: one list with one claim. Assumes nothing.
+use Prim.Native.Nat.{ℕ}
 use mathlib.Core.Path.{_≡_, refl}
 use mathlib.Core.List.{List, [], _∷_, flatMap}
-use Rattle.format.specs.Seen.{Case, _shows_, AllHold, lent, refused, numbers, number, points, levels, group, packs, reading, template, unpacking, restoring, unrolling, packing}
+use Rattle.format.specs.Seen.{Case, _shows_, AllHold, lent, refused, numbers, spanned, number, points, levels, group, packs, reading, template, unpacking, restoring, readingSection5, writingSection5, unpackingSection5, unrolling, packing}
 use Rattle.format.specs.Lists.{listed, total, joined, anyOf, greatest, least}
 use Rattle.format.specs.Refusals.{first}
 use Rattle.format.specs.Bits.{bitIn, numberOf, spanOf, readField, writeField}
@@ -11,8 +12,27 @@ use Rattle.format.specs.Differences.{descriptorsOf, raised, expected, re
 use Rattle.format.specs.RunLength.{levelsOf, repeatsFirst, levelsIn, runLength}
 use Rattle.format.specs.Grouping.{digitsIn, bits, widthOf, endsBefore, groupsFrom, groupsOf, recordsFrom}
 use Rattle.format.specs.Packing.{summarySize, widthCoding, gcdIn, gcd, gcdFrom, divisorUpTo, incrementOf, butLast, lengthCoding, templateOf, lengthCodes, valueString, payloadOf, packingOf, packBy}
-use Rattle.format.specs.Layout.{groupSize}
+use Rattle.format.specs.Section5.{table, sectionSize, fieldCount, laid, at, wrongHead, readSection5, writeSection5, namedBy}
+use Rattle.format.specs.Layout.{groupSize, inFours}
 use Rattle.format.specs.declared.DecodedValue.the-variants.{Missing1, Missing2}
+
+-- The maps of two of these with their Section 5, octet by octet, and its fields: under 5.2 BC 80 40 with management 1, under 5.3
+-- 0A 82 0C 50. Reference value 10.0, scales −1 and 2, field type 1.
+abbrev pub octets52 : List ℕ
+octets52 =
+    0 ∷ 0 ∷ 0 ∷ 47 ∷ 5 ∷ 0 ∷ 0 ∷ 0 ∷ 4 ∷ 0 ∷ 2 ∷ 0x41 ∷ 0x20 ∷ 0 ∷ 0 ∷ 0x80 ∷ 0x01 ∷ 0 ∷ 2 ∷ 3 ∷ 1 ∷ 1 ∷ 1 ∷ 0xFF ∷ 0xFF ∷ 0xFF ∷ 0xFF
+    ∷ 0xFF ∷ 0xFF ∷ 0xFF ∷ 0xFF ∷ 0 ∷ 0 ∷ 0 ∷ 2 ∷ 0 ∷ 1 ∷ 0 ∷ 0 ∷ 0 ∷ 3 ∷ 0 ∷ 0 ∷ 0 ∷ 0 ∷ 1 ∷ 0 ∷ []
+
+abbrev pub fields52 : List ℕ
+fields52 = 47 ∷ 5 ∷ 4 ∷ 2 ∷ 0x41200000 ∷ 0x8001 ∷ 2 ∷ 3 ∷ 1 ∷ 1 ∷ 1 ∷ 0xFFFFFFFF ∷ 0xFFFFFFFF ∷ 2 ∷ 0 ∷ 1 ∷ 3 ∷ 0 ∷ 1 ∷ 0 ∷ []
+
+abbrev pub octets53 : List ℕ
+octets53 =
+    0 ∷ 0 ∷ 0 ∷ 49 ∷ 5 ∷ 0 ∷ 0 ∷ 0 ∷ 4 ∷ 0 ∷ 3 ∷ 0x41 ∷ 0x20 ∷ 0 ∷ 0 ∷ 0x80 ∷ 0x01 ∷ 0 ∷ 2 ∷ 0 ∷ 1 ∷ 1 ∷ 0 ∷ 0xFF ∷ 0xFF ∷ 0xFF ∷ 0xFF
+    ∷ 0xFF ∷ 0xFF ∷ 0xFF ∷ 0xFF ∷ 0 ∷ 0 ∷ 0 ∷ 1 ∷ 3 ∷ 0 ∷ 0 ∷ 0 ∷ 0 ∷ 0 ∷ 0 ∷ 0 ∷ 0 ∷ 0 ∷ 4 ∷ 0 ∷ 1 ∷ 1 ∷ []
+
+abbrev pub fields53 : List ℕ
+fields53 = 49 ∷ 5 ∷ 4 ∷ 3 ∷ 0x41200000 ∷ 0x8001 ∷ 2 ∷ 0 ∷ 1 ∷ 1 ∷ 0 ∷ 0xFFFFFFFF ∷ 0xFFFFFFFF ∷ 1 ∷ 3 ∷ 0 ∷ 0 ∷ 0 ∷ 4 ∷ 0 ∷ 1 ∷ 1 ∷ []
 
 abbrev pub cases : List Case
 cases =
@@ -50,10 +70,18 @@ cases =
     shows packs (31 ∷ 1 ∷ 0 ∷ 0 ∷ 0 ∷ 0 ∷ 1 ∷ 0 ∷ []) (0xFF ∷ 0xFF ∷ 0xFF ∷ 0xFE ∷ []) (group 0 1 2147483647 0 ∷ [])
     ∷ packing 1 (2147483648 ∷ []) 1 4 shows refused 13 (lent groupSize ∷ lent 4 ∷ lent summarySize ∷ [])
     ∷ packing 0 (1 ∷ []) 1 4 shows refused 13 (lent groupSize ∷ lent 4 ∷ lent summarySize ∷ [])
+    -- document 02, No. 1
+    ∷ readingSection5 octets52 80 shows numbers (inFours fields52)
+    ∷ readingSection5 octets53 88 shows numbers (inFours fields53)
+    ∷ writingSection5 fields52 47 shows spanned 47 octets52
+    ∷ writingSection5 fields53 49 shows spanned 49 octets53
+    ∷ unpackingSection5 octets52 (0xBC ∷ 0x80 ∷ 0x40 ∷ []) 36 shows points (number 5 ∷ Missing1 ∷ number 5 ∷ Missing1 ∷ [])
+    ∷ unpackingSection5 octets53 (0x0A ∷ 0x82 ∷ 0x0C ∷ 0x50 ∷ []) 36
+    shows points (number 10 ∷ number 11 ∷ number 9 ∷ number 12 ∷ [])
     ∷ []
 
 pub all-hold : AllHold cases
-unfolding listed referenceOf total joined anyOf greatest least flatMap first bitIn numberOf spanOf readField writeField widthsAt lengthsAt valuesAt codesOf saidBy groupWidth groupLength pointsBefore bitsBefore wrongGroup decoded pointOf pointAt pointsUpTo placesOf unpack52 descriptorsOf raised expected restored beyond points53 left53 unpack53 levelsOf repeatsFirst levelsIn runLength digitsIn bits widthOf endsBefore groupsFrom groupsOf recordsFrom widthCoding gcdIn gcd gcdFrom divisorUpTo incrementOf butLast lengthCoding templateOf lengthCodes valueString payloadOf packingOf packBy
+unfolding listed referenceOf total joined anyOf greatest least flatMap first bitIn numberOf spanOf readField writeField widthsAt lengthsAt valuesAt codesOf saidBy groupWidth groupLength pointsBefore bitsBefore wrongGroup decoded pointOf pointAt pointsUpTo placesOf unpack52 descriptorsOf raised expected restored beyond points53 left53 unpack53 levelsOf repeatsFirst levelsIn runLength digitsIn bits widthOf endsBefore groupsFrom groupsOf recordsFrom widthCoding gcdIn gcd gcdFrom divisorUpTo incrementOf butLast lengthCoding templateOf lengthCodes valueString payloadOf packingOf packBy table sectionSize fieldCount laid at wrongHead readSection5 writeSection5 namedBy
 all-hold = refl
 
 -- "Pack ten 0, 310 times 8, five 0, k 1": the lengths of its groups, and how they are coded

@@ -10,6 +10,7 @@ use Rattle.format.specs.Layout.{pointSize, pointOctets, levelSize, level
 use Rattle.format.specs.Template.{templateNumbers, templateBy}
 use Rattle.format.specs.Unpacking.{unpack52}
 use Rattle.format.specs.Differences.{unpack53}
+use Rattle.format.specs.Section5.{readSection5, writeSection5, unpackSection5}
 use Rattle.format.specs.RunLength.{runLength}
 use Rattle.format.specs.Grouping.{groupNumbersOf}
 use Rattle.format.specs.Packing.{Packing, missingValue, summarySize, pack}
@@ -128,6 +129,20 @@ restoringIn order octets t declared payload room =
 
 abbrev pub restoring : ℕ → ℕ → Template → ℕ → List ℕ → Seen
 restoring order octets t declared payload = restoringIn order octets t declared payload (declared * pointSize)
+
+-- Section 5: read into so many lent octets, written into so many, and unpacked by
+abbrev pub readingSection5 : List ℕ → ℕ → Seen
+readingSection5 section5 room =
+    let r = readSection5 section5 (lent room) in
+    record { number = fetchedNumber (r .answer); answers = []; left = r .buffer ∷ [] }
+
+abbrev pub writingSection5 : List ℕ → ℕ → Seen
+writingSection5 numbers room =
+    let r = writeSection5 numbers (lent room) in
+    record { number = storedNumber (r .answer); answers = spanAnswered (r .answer); left = r .buffer ∷ [] }
+
+abbrev pub unpackingSection5 : List ℕ → List ℕ → ℕ → Seen
+unpackingSection5 section5 payload room = unpacks (unpackSection5 section5 payload (lent room))
 
 -- where the parts begin, where the values end, and how many points there are
 abbrev pub locates : Located → Seen

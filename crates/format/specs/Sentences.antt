@@ -1,12 +1,12 @@
--- Sentences of document 01 that no case of its own shows: one list with one claim. Assumes nothing.
+-- Sentences of documents 01 and 02 that no case shows: one list with one claim. Assumes nothing.
 use mathlib.Core.Path.{_≡_, refl}
 use mathlib.Core.Bool.{false}
 use mathlib.Core.List.{List, [], _∷_, _++_, map, flatMap}
 use Prim.Native.Nat.{ℕ, zero, suc, _+_, _^_}
 use lib.Dec.{eqb, ltb}
-use lib.ListN.{replicate, length-replicate}
+use lib.ListN.{replicate, set, take, length-replicate}
 use lib.IntN.{pos, negsuc, negℤ}
-use Rattle.format.specs.Seen.{Case, _shows_, AllHold, lent, refused, answered, numbers, spanned, number, points, levels, group, packs, readingIn, writing, template, unpacks, unpackingIn, unpacking, restoringIn, restoring, locates, unrollingIn, unrolling, grouping, kindNumbers, packingIn, packing}
+use Rattle.format.specs.Seen.{Case, _shows_, AllHold, lent, refused, answered, numbers, spanned, number, points, levels, group, packs, readingIn, writing, template, unpacks, unpackingIn, unpacking, restoringIn, restoring, readingSection5, writingSection5, unpackingSection5, locates, unrollingIn, unrolling, grouping, kindNumbers, packingIn, packing}
 use Rattle.format.specs.Lists.{listed, total, joined, anyOf, greatest, least}
 use Rattle.format.specs.Refusals.{_gives_, first}
 use Rattle.format.specs.Bits.{bitIn, numberOf, spanOf, readField, writeField}
@@ -16,6 +16,8 @@ use Rattle.format.specs.Differences.{descriptorsOf, raised, expected, re
 use Rattle.format.specs.RunLength.{levelsOf, repeatsFirst, levelsIn, runLength}
 use Rattle.format.specs.Grouping.{digitsIn, bits, widthOf, endsBefore, groupsFrom, groupsOf, recordsFrom, numberRefusals, groupNumbersOf}
 use Rattle.format.specs.Packing.{summarySize, widthCoding, gcdIn, gcd, gcdFrom, divisorUpTo, incrementOf, butLast, lengthCoding, templateOf, lengthCodes, valueString, payloadOf, packingOf, packBy}
+use Rattle.format.specs.Section5.{table, sectionSize, fieldCount, laid, at, wrongHead, readSection5, writeSection5, namedBy}
+use Rattle.format.specs.Cases.{octets52, fields52, octets53, fields53}
 use Rattle.format.specs.Layout.{pointOctets, levelOctets, numbersIn, inFours}
 use Rattle.format.specs.declared.Refusal.the-variants.{Numbers}
 use Rattle.format.specs.declared.Part.the-variants.{References, Lengths, Values}
@@ -175,10 +177,38 @@ sentences =
     ∷ unrolling 4 14 3 (0x3F ∷ 0xE0 ∷ []) shows levels (3 ∷ 14 ∷ 0 ∷ [])
     ∷ unrolling 3 7 2 (0x53 ∷ []) shows levels (2 ∷ 4 ∷ [])
     ∷ unrolling 9 3 0 (0xFF ∷ []) shows levels []
+    -- document 02, No. 1: 14 "comes before all others": all faults at once, then one fewer each time
+    ∷ readingSection5 (take 46 octets52) 79 shows refused 14 (lent 79 ∷ [])
+    ∷ readingSection5 octets52 79 shows refused 10 (lent 79 ∷ [])
+    ∷ writingSection5 (set (set fields52 1 6) 7 256) 46 shows refused 14 (lent 46 ∷ [])
+    ∷ writingSection5 (set fields52 7 256) 46 shows refused 13 (lent 46 ∷ [])
+    ∷ writingSection5 (set fields52 7 255) 46 shows refused 10 (lent 46 ∷ [])
+    ∷ unpackingSection5 (set (set octets52 4 6) 21 0) [] 0 shows refused 14 (lent 0 ∷ [])
+    ∷ unpackingSection5 (set octets52 21 0) [] 0 shows refused 1 (lent 0 ∷ [])
+    -- "fewer octets are lent than the template has", of which one is as if it had none
+    ∷ readingSection5 [] 80 shows refused 14 (lent 80 ∷ [])
+    ∷ readingSection5 (take 10 octets52) 80 shows refused 14 (lent 80 ∷ [])
+    ∷ readingSection5 (take 48 octets53) 88 shows refused 14 (lent 88 ∷ [])
+    ∷ writingSection5 (take 19 fields52) 47 shows refused 14 (lent 47 ∷ [])
+    ∷ writingSection5 (take 21 fields53) 49 shows refused 14 (lent 49 ∷ [])
+    -- "the length is not the template's, the section number is not 5, or the template is neither"
+    ∷ readingSection5 (set octets52 3 49) 80 shows refused 14 (lent 80 ∷ [])
+    ∷ readingSection5 (set octets52 4 7) 80 shows refused 14 (lent 80 ∷ [])
+    ∷ readingSection5 (set octets52 10 4) 80 shows refused 14 (lent 80 ∷ [])
+    ∷ readingSection5 (set octets52 10 1) 80 shows refused 14 (lent 80 ∷ [])
+    ∷ writingSection5 (set fields52 0 49) 49 shows refused 14 (lent 49 ∷ [])
+    ∷ writingSection5 (set fields53 3 4) 49 shows refused 14 (lent 49 ∷ [])
+    -- more than the template has is not looked at, and what is past the answer stays
+    ∷ readingSection5 (octets52 ++ (9 ∷ [])) 83 shows numbers (inFours fields52 ++ lent 3)
+    ∷ writingSection5 (fields52 ++ (256 ∷ 256 ∷ [])) 48 shows spanned 47 (octets52 ++ lent 1)
+    -- reading judges no template number
+    ∷ readingSection5 (set octets52 19 200) 80 shows numbers (inFours (set fields52 7 200))
+    ∷ writingSection5 (set fields52 7 200) 47 shows spanned 47 (set octets52 19 200)
+    ∷ unpackingSection5 (set octets52 19 200) (0xBC ∷ 0x80 ∷ 0x40 ∷ []) 36 shows refused 5 (lent 36 ∷ [])
     ∷ []
 
 pub all-hold : AllHold sentences
-unfolding listed referenceOf total joined anyOf greatest least flatMap first bitIn numberOf spanOf readField writeField widthsAt lengthsAt valuesAt codesOf saidBy groupWidth groupLength pointsBefore bitsBefore wrongGroup decoded pointOf pointAt pointsUpTo placesOf locate52 unpack52 descriptorsOf raised expected restored beyond points53 locate53 left53 unpack53 levelsOf repeatsFirst levelsIn runLength digitsIn bits widthOf endsBefore groupsFrom groupsOf recordsFrom groupNumbersOf widthCoding gcdIn gcd gcdFrom divisorUpTo incrementOf butLast lengthCoding templateOf lengthCodes valueString payloadOf packingOf packBy
+unfolding listed referenceOf total joined anyOf greatest least flatMap first bitIn numberOf spanOf readField writeField widthsAt lengthsAt valuesAt codesOf saidBy groupWidth groupLength pointsBefore bitsBefore wrongGroup decoded pointOf pointAt pointsUpTo placesOf locate52 unpack52 descriptorsOf raised expected restored beyond points53 locate53 left53 unpack53 levelsOf repeatsFirst levelsIn runLength digitsIn bits widthOf endsBefore groupsFrom groupsOf recordsFrom groupNumbersOf widthCoding gcdIn gcd gcdFrom divisorUpTo incrementOf butLast lengthCoding templateOf lengthCodes valueString payloadOf packingOf packBy table sectionSize fieldCount laid at wrongHead readSection5 writeSection5 namedBy
 all-hold = refl
 
 -- 13: "above 4,194,304 numbers" is too long a list to compute. The rows that n zeros meet with lookahead 1, whatever n is:
