@@ -57,8 +57,12 @@ enum cleatmow_refusal {
     CLEATMOW_REFUSAL_REPEAT = 11,
     /* a restored number is beyond 2^60 either way */
     CLEATMOW_REFUSAL_BEYOND = 12,
-    /* packing: list empty or above 4,194,304 numbers, a number above 2,147,483,647, lookahead outside 1 to 65,535 */
-    CLEATMOW_REFUSAL_NUMBERS = 13
+    /* packing: list empty or above 4,194,304 numbers, a number above 2,147,483,647, lookahead outside 1 to 65,535;
+     * writing Section 5: a number that its octets do not hold */
+    CLEATMOW_REFUSAL_NUMBERS = 13,
+    /* Section 5: fewer octets than its template has, a length that is not its template's, a section number other than
+     * 5, or a template other than 5.2 and 5.3 */
+    CLEATMOW_REFUSAL_SECTION5 = 14
 };
 
 /* The greatest declared count. No call needs a buffer with room for more. */

@@ -96,6 +96,7 @@
 
 #[allow(unsafe_code)]
 mod ffi;
+mod fields;
 mod filled;
 pub mod grib2;
 mod packing;
@@ -107,6 +108,10 @@ mod section5;
 mod section7;
 mod unpacking;
 
+pub use fields::{
+    field, read_section5, read_section5_into, write_section5, write_section5_into, Fields, FIELD_OCTETS,
+    SECTION5_COMPLEX_FIELDS, SECTION5_COMPLEX_OCTETS, SECTION5_SPATIAL_FIELDS, SECTION5_SPATIAL_OCTETS,
+};
 pub use filled::{Filled, FilledIter, InOctets};
 pub use packing::{
     numbers_as_octets, numbers_of_points, pack, pack_into, Group, Groups, Packed, Packing, GREATEST_LOOKAHEAD,
@@ -119,7 +124,8 @@ pub use section::NotSection;
 pub use section5::{Physical, Section5, TemplateNumbers};
 pub use section7::{payload_of, section7_of};
 pub use unpacking::{
-    lent_points, unpack_complex, unpack_complex_into, unpack_spatial, unpack_spatial_into, Differences, Template,
+    lent_points, unpack, unpack_complex, unpack_complex_into, unpack_into, unpack_spatial, unpack_spatial_into,
+    Differences, Template,
 };
 
 /// The README's program in Rust is a documentation test.
