@@ -121,8 +121,8 @@ const JUDGED: [usize; 3] = [0, 1, 3];
 /// The octets between two buffers.
 const BETWEEN: usize = 16;
 
-/// Makes a call that reads these buffers on so many lent octets, all between guards. Holds its answer to the model's, and
-/// every octet: read, lent, before, between and after. Answers both, the octets those that are lent.
+/// Makes a call that reads these buffers on so many lent octets, all between guards. Holds its answer to the model's,
+/// and every octet: read, lent, before, between and after. Answers both, the octets those that are lent.
 fn compare<const READ: usize>(
     read: [&[u8]; READ],
     len: usize,
@@ -156,8 +156,8 @@ fn compare<const READ: usize>(
     (number, all[end..].to_vec())
 }
 
-/// Holds reading on so many lent octets to the model, and the call that lends for itself, where 10 does not arise. Behind
-/// what that one is given stands what stands there at the caller's.
+/// Holds reading on so many lent octets to the model, and the call that lends for itself, where 10 does not arise.
+/// Behind what that one is given stands what stands there at the caller's.
 fn compare_read(section5: &[u8], len: usize) -> u32 {
     let right = |lent: &[u8]| model::read(section5, lent);
     let (answer, _) = compare([section5], len, right, |[section5], lent| model::call_read(section5, lent));
@@ -221,8 +221,8 @@ fn every_octet_at_every_value() {
     assert_eq!(reached, [vec![0, 1, 2, 5, 6, 7, 8, 9, 14], vec![0, 1, 2, 3, 4, 5, 6, 7, 8, 9, 14]]);
 }
 
-/// In a field list an upper octet other than 0 is 13 where the field's own octets do not reach it, and 14 in the length,
-/// the section number and the template.
+/// In a field list an upper octet other than 0 is 13 where the field's own octets do not reach it, and 14 in the
+/// length, the section number and the template.
 #[test]
 fn every_octet_of_the_fields_at_every_value() {
     for map in maps() {
@@ -246,7 +246,8 @@ fn every_octet_of_the_fields_at_every_value() {
     }
 }
 
-/// What is read where every octet that is not judged is 255: the greatest number of each field, but for the judged three.
+/// What is read where every octet that is not judged is 255: the greatest number of each field, but for the judged
+/// three.
 fn greatest(section5: &[u8]) -> Vec<u32> {
     let mut all = with(section5, 6, &[255; 4]);
     all[11..].fill(255);
@@ -324,8 +325,8 @@ fn headers_in_full() {
     assert_eq!(accepted, (4 + 2) + (3 + 1));
 }
 
-/// Fewer octets than the template has are 14, more are not looked at. What stands behind is the section's own rest, which
-/// must not be read, or garbage.
+/// Fewer octets than the template has are 14, more are not looked at. What stands behind is the section's own rest,
+/// which must not be read, or garbage.
 #[test]
 fn sections_of_every_length() {
     for Map { section5, payload } in maps() {
@@ -342,7 +343,8 @@ fn sections_of_every_length() {
     }
 }
 
-/// Fewer numbers than the template has fields are 14, and spare octets short of a number are none; more are not looked at.
+/// Fewer numbers than the template has fields are 14, and spare octets short of a number are none; more are not looked
+/// at.
 #[test]
 fn field_lists_of_every_length() {
     for map in maps() {
@@ -449,8 +451,8 @@ fn hold_order(mut section5: Vec<u8>, descriptors: &[u8], mends: &[(u32, Mend)]) 
     hold(&section5, there, room, 0);
 }
 
-/// Two groups: one point of width 8, then 39,999 of width 0. Under order 2 they grow by differences of 2^31 − 16, beyond
-/// 2^60.
+/// Two groups: one point of width 8, then 39,999 of width 0. Under order 2 they grow by differences of 2^31 − 16,
+/// beyond 2^60.
 const FIELDS_AND_VALUE: [u8; 10] = [0x00, 0x00, 0x00, 0x0F, 0xFF, 0xFF, 0xFF, 0xC0, 0x80, 0xFF];
 
 #[test]

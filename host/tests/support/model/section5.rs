@@ -6,8 +6,9 @@ use crate::support::guarded;
 use crate::support::maps::Numbers;
 use cleatmow::{Differences, Template};
 
-/// The fields of a Section 5, in the request's order; or 14 "when fewer octets are lent than the template has, the length
-/// is not the template's, the section number is not 5, or the template is neither". What stands behind is not looked at.
+/// The fields of a Section 5, in the request's order; or 14 "when fewer octets are lent than the template has, the
+/// length is not the template's, the section number is not 5, or the template is neither". What stands behind is not
+/// looked at.
 pub fn fields(section5: &[u8]) -> Result<Vec<u32>, u32> {
     let spatial = match section5 {
         [0, 0, 0, 47, 5, _, _, _, _, 0, 2, ..] if section5.len() >= 47 => false,
@@ -34,8 +35,8 @@ pub fn fields(section5: &[u8]) -> Result<Vec<u32>, u32> {
     Ok(fields)
 }
 
-/// The octets of a Section 5 of these fields; or 14, for fewer numbers than the template has fields too; or 13 for a number
-/// that its octets do not hold. Numbers behind the last field are not looked at.
+/// The octets of a Section 5 of these fields; or 14, for fewer numbers than the template has fields too; or 13 for a
+/// number that its octets do not hold. Numbers behind the last field are not looked at.
 pub fn octets(fields: &[u32]) -> Result<Vec<u8>, u32> {
     let count = match fields {
         [47, 5, _, 2, ..] if fields.len() >= 20 => 20,
@@ -154,8 +155,8 @@ fn lent_answer(octets: Result<Vec<u8>, u32>, lent: &[u8]) -> (u32, Vec<u8>) {
     }
 }
 
-/// What the call that reads answers, and leaves in the octets. Where a view is answered, it is of the template's fields at
-/// the front of the octets, and of nothing past them.
+/// What the call that reads answers, and leaves in the octets. Where a view is answered, it is of the template's fields
+/// at the front of the octets, and of nothing past them.
 pub fn call_read(section5: &[u8], lent: &mut [u8]) -> u32 {
     let front = lent.as_ptr();
     match cleatmow::read_section5_into(section5, lent) {
@@ -168,8 +169,8 @@ pub fn call_read(section5: &[u8], lent: &mut [u8]) -> u32 {
     }
 }
 
-/// What the call that writes answers, and leaves in the octets. The section that is answered has as many octets as it says,
-/// the first of the lent ones.
+/// What the call that writes answers, and leaves in the octets. The section that is answered has as many octets as it
+/// says, the first of the lent ones.
 pub fn call_write(fields: &[u8], lent: &mut [u8]) -> u32 {
     let front = lent.as_ptr();
     match cleatmow::write_section5_into(fields, lent) {
@@ -181,8 +182,8 @@ pub fn call_write(fields: &[u8], lent: &mut [u8]) -> u32 {
     }
 }
 
-/// What the call that unpacks answers, and leaves in the octets. Where a view is answered, it is of the points that octets 6
-/// to 9 declare.
+/// What the call that unpacks answers, and leaves in the octets. Where a view is answered, it is of the points that
+/// octets 6 to 9 declare.
 pub fn call_unpack(section5: &[u8], payload: &[u8], lent: &mut [u8]) -> u32 {
     let front = lent.as_ptr();
     match cleatmow::unpack_into(section5, payload, lent) {
