@@ -156,8 +156,8 @@ fn compare<const READ: usize>(
     (number, all[end..].to_vec())
 }
 
-/// Holds reading on so many lent octets to the model, and the call that lends for itself, where 10 does not arise.
-/// Behind what that one is given stands what stands there at the caller's.
+/// Holds reading on so many lent octets to the model, and the call that lends for itself, where 10 does not arise. That
+/// one is given the caller's own slice, with whatever stands behind it.
 fn compare_read(section5: &[u8], len: usize) -> u32 {
     let right = |lent: &[u8]| model::read(section5, lent);
     let (answer, _) = compare([section5], len, right, |[section5], lent| model::call_read(section5, lent));
@@ -254,7 +254,7 @@ fn greatest(section5: &[u8]) -> Vec<u32> {
     cleatmow::read_section5(&all).unwrap()
 }
 
-/// "13 for a number that its octets do not hold": the greatest that they hold is written, one more is refused.
+/// A number that its octets do not hold is 13: the greatest that they hold is written, one more is refused.
 #[test]
 fn fields_have_limits() {
     for (map, refused) in maps().iter().zip([10, 12]) {
@@ -425,7 +425,7 @@ enum Mend {
     Octets(usize, &'static [u8]),
     /// So many octets of the payload, after its descriptors.
     Payload(usize),
-    /// The last octet of room.
+    /// The last octet of room, and some to spare.
     Room,
 }
 
@@ -445,7 +445,7 @@ fn hold_order(mut section5: Vec<u8>, descriptors: &[u8], mends: &[(u32, Mend)]) 
         match *mend {
             Mend::Octets(octet, octets) => put(&mut section5, octet, octets),
             Mend::Payload(octets) => there = descriptors.len() + octets,
-            Mend::Room => room += 1,
+            Mend::Room => room += 20,
         }
     }
     hold(&section5, there, room, 0);
@@ -509,7 +509,7 @@ fn there_and_back() {
     }
 }
 
-/// Any numbers for fields, most of which are not held: what is written is read back.
+/// Up to three fields are any numbers, which their octets hold or do not: what is written is read back.
 #[test]
 fn fields_by_chance() {
     let mut chance = Numbers::new(14);

@@ -137,7 +137,7 @@ fn damage_section(chance: &mut Chance, section5: &mut Vec<u8>) {
             put(section5, 4, &[length]);
             put(section5, 11, &[template]);
         }
-        // Each of an octet that is carried through, or that unpacking judges.
+        // An octet that is carried through, or that unpacking judges.
         5..=9 if section5.len() >= 47 => {
             let place = 11 + chance.below(section5.len() - 11);
             damage::octet(chance, &mut section5[place], &[0, 1, 2, 31, 32, 33, 127, 128, 255]);
