@@ -21,8 +21,8 @@ fn sections_by_chance() {
     let gust = (fs::read(GUST.file("s5")).unwrap(), fs::read(GUST.file("s7")).unwrap());
     let mut maps: Vec<(Vec<u8>, Vec<u8>)> = (0..40).map(|_| (any(60), any(20))).collect();
     maps.extend((0..40).map(|_| (small.0.clone(), section7(&any(20)))));
-    for (map, from) in [(&small, 5), (&gust, 5)] {
-        for place in from..map.0.len() {
+    for map in [&small, &gust] {
+        for place in 0..map.0.len() {
             for change in [1, 0x80, 0xFF] {
                 let mut changed = map.clone();
                 changed.0[place] ^= change;
