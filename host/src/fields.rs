@@ -133,8 +133,8 @@ pub(crate) fn declared_points(section5: &[u8]) -> Result<u32, Refusal> {
 
 /// The octets of the Section 5 that has these fields: 47 under template 5.2, 49 under 5.3.
 ///
-/// `fields` has 20 or 22 numbers, as [`read_section5`] answers them; more than the template has are not looked at. Length
-/// and section number are fields like the others, and must be right. Reading gives back every field.
+/// `fields` has 20 or 22 numbers, as [`read_section5`] answers them; more than the template has are not looked at.
+/// Length and section number are fields like the others, and must be right. Reading gives back every field.
 ///
 /// # Errors
 ///
@@ -148,9 +148,9 @@ pub fn write_section5(fields: &[u32]) -> Result<Vec<u8>, Refusal> {
 
 /// The octets of the Section 5 that has these fields, in octets that the caller lends.
 ///
-/// `fields` has [`FIELD_OCTETS`] for each field ([`numbers_as_octets`] makes them); spare octets that are short of a whole
-/// number are not used. On success the section stands at the front of `lent`, and is the answer; the octets past it are
-/// unchanged, and so is all of `lent` on a refusal.
+/// `fields` has [`FIELD_OCTETS`] for each field ([`numbers_as_octets`] makes them); spare octets that are short of a
+/// whole field are not used. On success the section stands at the front of `lent`, and is the answer; the octets past it
+/// are unchanged, and so is all of `lent` on a refusal.
 ///
 /// # Errors
 ///

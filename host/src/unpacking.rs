@@ -24,8 +24,8 @@ pub fn unpack(section5: &[u8], payload: &[u8]) -> Result<Vec<Point>, Refusal> {
 ///
 /// # Errors
 ///
-/// [`Refusal::Section5`], and then those of [`unpack_complex_into`] or [`unpack_spatial_into`], by the template, in their
-/// order.
+/// [`Refusal::Section5`], and then those of [`unpack_complex_into`] or [`unpack_spatial_into`], by the template, in
+/// their order.
 pub fn unpack_into<'a>(section5: &[u8], payload: &[u8], lent: &'a mut [u8]) -> Result<Points<'a>, Refusal> {
     Refusal::answered(ffi::unpack(section5, payload, lent))?;
     Ok(Filled::front(lent, declared_points(section5)? as usize))
