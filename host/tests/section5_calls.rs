@@ -3,12 +3,12 @@
 
 mod support;
 
-use cleatmow::{Point, Refusal, Section5, MOST_POINTS, POINT_OCTETS};
+use cleatmow::{Point, Refusal, POINT_OCTETS};
 use support::grib2::put;
 use support::guarded;
 use support::maps::Numbers;
+use support::model::octets_of;
 use support::model::section5::{self as model, fields, lent_fields, octets, whole_fields};
-use support::model::{octets_of, Input};
 use support::others;
 
 /// Document 01's "Unpack that payload with management 1", octet by octet. What is carried through as bits is any.
@@ -194,6 +194,14 @@ const FIELDS: usize = 22 * 4;
 const SECTION: usize = 49;
 const POINTS: usize = 4 * POINT_OCTETS;
 
+/// "writing what was read gives back the octets"
+fn hold_there_and_back(section5: &[u8]) {
+    assert_eq!(compare_read(section5, FIELDS), 0, "{section5:02X?}");
+    let fields = cleatmow::read_section5(section5).unwrap();
+    assert_eq!(compare_write(&lent_fields(&fields), SECTION), 0, "{section5:02X?}");
+    assert_eq!(cleatmow::write_section5(&fields).as_deref(), Ok(section5));
+}
+
 /// Reading judges the length, the section number and the template alone, and what was read is written as it was.
 #[test]
 fn every_octet_at_every_value() {
@@ -203,12 +211,10 @@ fn every_octet_at_every_value() {
             for value in 0..=255 {
                 let section5 = with(&map.section5, octet, &[value]);
                 let judged = matches!(octet, 1..=5 | 10 | 11) && section5 != map.section5;
-                let expected = if judged { 14 } else { 0 };
-                assert_eq!(compare_read(&section5, FIELDS), expected, "octet {octet} is {value}");
-                if !judged {
-                    let fields = cleatmow::read_section5(&section5).unwrap();
-                    assert_eq!(compare_write(&lent_fields(&fields), SECTION), 0, "octet {octet} is {value}");
-                    assert_eq!(cleatmow::write_section5(&fields), Ok(section5.clone()), "octet {octet} is {value}");
+                if judged {
+                    assert_eq!(compare_read(&section5, FIELDS), 14, "octet {octet} is {value}");
+                } else {
+                    hold_there_and_back(&section5);
                 }
                 let answer = compare_unpack(&section5, &map.payload, POINTS);
                 assert_eq!(answer == 14, judged, "octet {octet} is {value}");
@@ -533,53 +539,15 @@ fn fields_by_chance() {
     assert!([0, 10, 13, 14].iter().all(|number| answers[*number] > 1_000), "{answers:?}");
 }
 
-/// Holds unpacking by a Section 5 to the call with its numbers, on lists and on lent octets; and the section, read and
-/// written, to itself.
-fn hold(name: &str, section5: &[u8], payload: &[u8]) -> Result<Vec<Point>, Refusal> {
-    let input = Input::of_map(&Section5::from_octets(section5).expect(name), payload);
-    let points = cleatmow::unpack(section5, payload);
-    assert!(points == input.points(), "{name}: other points");
-    let declared = if input.declared > MOST_POINTS { 0 } else { input.declared as usize };
-    let mut lent = vec![0xA5; (declared + 2) * POINT_OCTETS];
-    let mut typed = lent.clone();
-    let answers = (model::call_unpack(section5, payload, &mut lent), input.call(&mut typed));
-    assert!(answers.0 == answers.1 && lent == typed, "{name}: {answers:?}");
-    let read = cleatmow::read_section5(section5).expect(name);
-    assert_eq!(cleatmow::write_section5(&read).as_deref(), Ok(section5), "{name}");
-    assert_eq!(Ok(read), fields(section5), "{name}");
-    points
-}
-
-#[test]
-fn real_maps() {
-    macro_rules! sample {
-        ($name:literal) => {
-            (
-                $name,
-                &include_bytes!(concat!("../../samples/", $name, ".s5"))[..],
-                &include_bytes!(concat!("../../samples/", $name, ".s7"))[..],
-            )
-        };
-    }
-    for (name, section5, section7) in
-        [sample!("gfs-gust-144x73"), sample!("ndfd-puerto-rico-339x224"), sample!("ndfd-conus-1073x689")]
-    {
-        assert!(hold(name, section5, &section7[5..]).is_ok(), "{name}");
-    }
-}
-
+/// Between guards. `others.rs` holds their points to those of other readers, and `real.rs` has the real maps.
 #[test]
 fn maps_by_other_writers() {
     let mut run = [0; 2];
-    for line in others::LINES.lines().filter(|line| line.contains(" t=2 ") || line.contains(" t=3 ")) {
-        let map = others::Map::from_line(line).unwrap();
-        let hex = line.split(' ').find_map(|word| word.strip_prefix("s5=")).unwrap();
-        let octet = |place| u8::from_str_radix(&hex[place..place + 2], 16).unwrap();
-        let section5: Vec<u8> = (0..hex.len()).step_by(2).map(octet).collect();
-        match hold(&map.id, &section5, &map.payload) {
-            Ok(points) => assert!(map.refusal.is_none() && map.has(&points), "{}", map.id),
-            refused => assert_eq!(refused.err(), map.refusal, "{}", map.id),
-        }
+    for map in others::maps().iter().filter(|map| map.template != 200) {
+        hold_there_and_back(&map.section5_octets);
+        let room = (map.section5.declared as usize + 2) * POINT_OCTETS;
+        let expected = map.refusal.map_or(0, Refusal::number);
+        assert_eq!(compare_unpack(&map.section5_octets, &map.payload, room), expected, "{}", map.id);
         run[usize::from(map.template) - 2] += 1;
     }
     assert_eq!(run, [49, 49], "maps under 5.2 and 5.3");
