@@ -1,12 +1,13 @@
 /*
  * The C calls of Cleatmow. A host links libcleatmow.a, which `rt staticlib cleatmow` writes to target/staticlib/.
- * What a call answers is decided by document 01, "Scope and rules", whose words are used here.
+ * What a call answers is decided by document 01, "Scope and rules", and document 02, "Requests", whose words are used
+ * here.
  *
  * Every call:
  * - answers 0, or the number of a refusal (enum cleatmow_refusal). Its comment lists the refusals in the order in which
  *   they are tested; the first that applies is the answer.
- * - takes a list of octets as a pointer and a length in octets. Spare octets short of a whole point, level, number or
- *   group are not used.
+ * - takes a list of octets as a pointer and a length in octets. Spare octets short of a whole point, level, number,
+ *   group or field are not used.
  * - leaves the places past its answer unchanged after success, and changes no buffer on a refusal unless its comment
  *   says so. It writes nowhere else.
  * - keeps nothing and allocates nothing, so calls on buffers of their own may run at the same time.
@@ -19,9 +20,9 @@
 #define CLEATMOW_H
 
 /* The version of the calls and of this header. */
-#define CLEATMOW_VERSION "0.2.0"
+#define CLEATMOW_VERSION "0.3.0"
 #define CLEATMOW_VERSION_MAJOR 0
-#define CLEATMOW_VERSION_MINOR 2
+#define CLEATMOW_VERSION_MINOR 3
 #define CLEATMOW_VERSION_PATCH 0
 
 #include <stddef.h>
@@ -57,8 +58,12 @@ enum cleatmow_refusal {
     CLEATMOW_REFUSAL_REPEAT = 11,
     /* a restored number is beyond 2^60 either way */
     CLEATMOW_REFUSAL_BEYOND = 12,
-    /* packing: list empty or above 4,194,304 numbers, a number above 2,147,483,647, lookahead outside 1 to 65,535 */
-    CLEATMOW_REFUSAL_NUMBERS = 13
+    /* packing: list empty or above 4,194,304 numbers, a number above 2,147,483,647, lookahead outside 1 to 65,535;
+       writing Section 5: a number that its octets do not hold */
+    CLEATMOW_REFUSAL_NUMBERS = 13,
+    /* Section 5: fewer octets than its template has, a length that is not its template's, a section number other than
+       5, or a template other than 5.2 and 5.3 */
+    CLEATMOW_REFUSAL_SECTION5 = 14
 };
 
 /* The greatest declared count. No call needs a buffer with room for more. */
@@ -95,6 +100,97 @@ enum cleatmow_refusal {
 #define CLEATMOW_PACKING_SPLITTING 1
 #define CLEATMOW_PACKING_MISSING 0
 #define CLEATMOW_PACKING_MISSING_VALUE 0xffffffff
+
+/* How many octets a Section 5 of template 5.2 has, and how many fields; and one of template 5.3. */
+#define CLEATMOW_SECTION5_COMPLEX_OCTETS 47
+#define CLEATMOW_SECTION5_COMPLEX_FIELDS 20
+#define CLEATMOW_SECTION5_SPATIAL_OCTETS 49
+#define CLEATMOW_SECTION5_SPATIAL_FIELDS 22
+
+/* The size of a field in a list of fields: a number of four octets, big-endian, however many it has in Section 5. */
+#define CLEATMOW_FIELD_OCTETS 4
+
+/* The places of the fields of Section 5 in a list of them. Template 5.2 has all but the last two. */
+enum cleatmow_field {
+    CLEATMOW_FIELD_SECTION_LENGTH = 0,     /* octets 1 to 4: 47 or 49 */
+    CLEATMOW_FIELD_SECTION_NUMBER = 1,     /* octet 5: 5 */
+    CLEATMOW_FIELD_DECLARED = 2,           /* octets 6 to 9: the declared points, missing ones too */
+    CLEATMOW_FIELD_TEMPLATE = 3,           /* octets 10 and 11: 2 or 3 */
+    CLEATMOW_FIELD_REFERENCE = 4,          /* octets 12 to 15: the reference value, as bits */
+    CLEATMOW_FIELD_BINARY_SCALE = 5,       /* octets 16 and 17, as bits */
+    CLEATMOW_FIELD_DECIMAL_SCALE = 6,      /* octets 18 and 19, as bits */
+    CLEATMOW_FIELD_NUMBER_WIDTH = 7,       /* octet 20 */
+    CLEATMOW_FIELD_FIELD_TYPE = 8,         /* octet 21: the original field type */
+    CLEATMOW_FIELD_SPLITTING = 9,          /* octet 22: the splitting method */
+    CLEATMOW_FIELD_MISSING = 10,           /* octet 23: missing management */
+    CLEATMOW_FIELD_PRIMARY_MISSING = 11,   /* octets 24 to 27 */
+    CLEATMOW_FIELD_SECONDARY_MISSING = 12, /* octets 28 to 31 */
+    CLEATMOW_FIELD_GROUPS = 13,            /* octets 32 to 35: the group count */
+    CLEATMOW_FIELD_WIDTH_REFERENCE = 14,   /* octet 36 */
+    CLEATMOW_FIELD_WIDTH_BITS = 15,        /* octet 37 */
+    CLEATMOW_FIELD_LENGTH_REFERENCE = 16,  /* octets 38 to 41 */
+    CLEATMOW_FIELD_INCREMENT = 17,         /* octet 42 */
+    CLEATMOW_FIELD_LAST_LENGTH = 18,       /* octets 43 to 46 */
+    CLEATMOW_FIELD_LENGTH_BITS = 19,       /* octet 47 */
+    CLEATMOW_FIELD_ORDER = 20,             /* octet 48, in template 5.3 */
+    CLEATMOW_FIELD_DESCRIPTOR_OCTETS = 21  /* octet 49, in template 5.3 */
+};
+
+/*
+ * Unpacking: reads the points of a map under template 5.2 or 5.3 from the octets of its Section 5 and its payload. No
+ * number of the template is typed.
+ *
+ * section5      the octets of Section 5, from its first on. More than the template has are not looked at
+ * section5_len  how many octets there are
+ * payload       the octets of Section 7 after its five-octet header
+ * payload_len   how many octets the payload has
+ * points        lent: room for the declared points, CLEATMOW_POINT_OCTETS each. Octets 6 to 9 of Section 5 declare them
+ * points_len    how many octets are lent; more than the points take is fine
+ *
+ * Refusals, in this order: 14; then, under template 5.2, those of cleatmow_unpack_complex, or under 5.3 those of
+ * cleatmow_unpack_spatial, in their order. A refusal changes nothing, but for 12, as there.
+ * 0: the points stand at the front of `points`, as many as are declared; the octets past them are unchanged.
+ */
+uint32_t cleatmow_unpack(
+    const uint8_t *section5, size_t section5_len,
+    const uint8_t *payload, size_t payload_len,
+    uint8_t *points, size_t points_len);
+
+/*
+ * Section 5: reads its fields. The numbers of its template are not judged; unpacking does that.
+ *
+ * section5      the octets of Section 5, from its first on. More than the template has are not looked at
+ * section5_len  how many octets there are
+ * fields        lent: room for CLEATMOW_SECTION5_COMPLEX_FIELDS fields under template 5.2, for
+ *               CLEATMOW_SECTION5_SPATIAL_FIELDS under 5.3, CLEATMOW_FIELD_OCTETS each
+ * fields_len    how many octets are lent; more than the fields take is fine
+ *
+ * Refusals, in this order: 14, 10. A refusal changes nothing.
+ * 0: the fields stand at the front of `fields`, in the order of enum cleatmow_field; the octets past them are
+ *    unchanged. Writing them gives back the octets of Section 5.
+ */
+uint32_t cleatmow_read_section5(
+    const uint8_t *section5, size_t section5_len,
+    uint8_t *fields, size_t fields_len);
+
+/*
+ * Section 5: writes its fields. Section length and section number are fields like the others, and must be right.
+ *
+ * fields        the fields in the order of enum cleatmow_field, CLEATMOW_FIELD_OCTETS each:
+ *               CLEATMOW_SECTION5_COMPLEX_FIELDS under template 5.2, CLEATMOW_SECTION5_SPATIAL_FIELDS under 5.3. More
+ *               than the template has are not looked at
+ * fields_len    how many octets the fields have
+ * section5      lent: CLEATMOW_SECTION5_COMPLEX_OCTETS octets under template 5.2, CLEATMOW_SECTION5_SPATIAL_OCTETS
+ *               under 5.3
+ * section5_len  how many octets are lent; more is fine
+ *
+ * Refusals, in this order: 14, for fewer fields than the template has too; 13 for a number that its octets do not hold;
+ * 10. A refusal changes nothing.
+ * 0: Section 5 stands at the front of `section5`; the octets past it are unchanged. Reading it gives back every field.
+ */
+uint32_t cleatmow_write_section5(
+    const uint8_t *fields, size_t fields_len,
+    uint8_t *section5, size_t section5_len);
 
 /*
  * Unpacking under template 5.2: reads the points of a map. Pad bits and octets after the last value are ignored.
@@ -172,7 +268,7 @@ uint32_t cleatmow_run_length(
 /*
  * Grouping and packing: makes the payload of a map under template 5.2 of a list of numbers. cleatmow_unpack_complex
  * reads the list back with the template numbers of the summary, CLEATMOW_PACKING_SPLITTING and
- * CLEATMOW_PACKING_MISSING.
+ * CLEATMOW_PACKING_MISSING; and cleatmow_unpack does with the Section 5 that cleatmow_write_section5 makes of them.
  *
  * lookahead    k, how many numbers are looked at before a group is ended: 1 to CLEATMOW_GREATEST_LOOKAHEAD
  * numbers      the list, 1 to CLEATMOW_MOST_NUMBERS numbers of up to CLEATMOW_GREATEST_NUMBER, CLEATMOW_NUMBER_OCTETS

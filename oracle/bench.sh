@@ -15,6 +15,8 @@ OPERATIONS="run_length:run_length unpack_complex:unpack_complex
 # Those where the Rust is left out: at the greatest lookahead it would take too long. No limit is asked of them.
 ALONE="pack_65535:pack pack_rising:pack pack_sawtooth:pack pack_patches:pack pack_alternating:pack
     pack_doubling:pack pack_spikes:pack pack_comb:pack"
+# By the octets of Section 5, which is cleatmow_unpack, and the C call with typed numbers that stands beside it.
+BY_SECTION5="section5_complex:unpack_complex section5_spatial:unpack_spatial"
 # Of the made maps: enough for a steady count, and few enough for callgrind. The real ones have the points that they have.
 POINTS=100000
 
@@ -33,8 +35,8 @@ folder=$(mktemp -d)
 trap 'rm -rf "$folder"' EXIT
 trap 'exit 1' HUP INT TERM
 
-# counted OPERATION SIDE FUNCTION: the points, and instructions a point inside the function, in the one call that the side
-# makes.
+# counted OPERATION SIDE FUNCTION [DIGITS]: the points, and instructions a point inside the function, in the one call
+# that the side makes. So many digits stand after the point: one unless said.
 counted() {
     valgrind --tool=callgrind --callgrind-out-file="$folder/counts" --toggle-collect="$3" \
         "$bench" "$1" --points "$POINTS" "--only-$2" >"$folder/said" 2>&1 || {
@@ -43,8 +45,8 @@ counted() {
     }
     # No map is read for less than an instruction a point: the function was not found.
     points=$(sed -n 's/.*: one call on \([0-9]*\) points$/\1/p' "$folder/said")
-    awk -v points="$points" '/^summary:/ { count = $2 }
-        END { if (points + 0 == 0 || count < points) exit 1; printf "%d %.1f\n", points, count / points }' \
+    awk -v points="$points" -v digits="${4:-1}" '/^summary:/ { count = $2 }
+        END { if (points + 0 == 0 || count < points) exit 1; printf "%d %." digits "f\n", points, count / points }' \
         "$folder/counts" || {
         echo "bench.sh: callgrind finds no function $3" >&2
         return 1
@@ -66,6 +68,16 @@ for pair in $OPERATIONS; do
     *) continue ;;
     esac
     echo "  limit              ${limit#* }"
+done
+
+# What reading the section costs is small beside the map, so that it shows in more digits alone.
+for pair in $BY_SECTION5; do
+    operation=${pair%:*}
+    ours=$(counted "$operation" ours cleatmow_unpack 3)
+    typed=$(counted "$operation" typed "cleatmow_${pair#*:}" 3)
+    echo "$operation: ${ours% *} points, instructions a point"
+    awk -v ours="${ours#* }" -v typed="${typed#* }" 'BEGIN {
+        printf "  by Section 5 %.3f, by typed numbers %.3f: %+.2f %%\n", ours, typed, 100 * (ours / typed - 1) }'
 done
 
 for pair in $ALONE; do

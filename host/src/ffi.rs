@@ -63,6 +63,29 @@ mod c {
             summary: *mut u8,
             summary_len: usize,
         ) -> u32;
+
+        pub fn cleatmow_read_section5(
+            section5: *const u8,
+            section5_len: usize,
+            fields: *mut u8,
+            fields_len: usize,
+        ) -> u32;
+
+        pub fn cleatmow_write_section5(
+            fields: *const u8,
+            fields_len: usize,
+            section5: *mut u8,
+            section5_len: usize,
+        ) -> u32;
+
+        pub fn cleatmow_unpack(
+            section5: *const u8,
+            section5_len: usize,
+            payload: *const u8,
+            payload_len: usize,
+            points: *mut u8,
+            points_len: usize,
+        ) -> u32;
     }
 }
 
@@ -149,6 +172,30 @@ pub fn pack(lookahead: u32, numbers: &[u8], groups: &mut [u8], payload: &mut [u8
             payload.len(),
             summary.as_mut_ptr(),
             summary.len(),
+        )
+    }
+}
+
+pub fn read_section5(section5: &[u8], fields: &mut [u8]) -> u32 {
+    // SAFETY: as in `unpack_complex`, with `fields` for `points`.
+    unsafe { c::cleatmow_read_section5(section5.as_ptr(), section5.len(), fields.as_mut_ptr(), fields.len()) }
+}
+
+pub fn write_section5(fields: &[u8], section5: &mut [u8]) -> u32 {
+    // SAFETY: as in `unpack_complex`, with `section5` for `points`.
+    unsafe { c::cleatmow_write_section5(fields.as_ptr(), fields.len(), section5.as_mut_ptr(), section5.len()) }
+}
+
+pub fn unpack(section5: &[u8], payload: &[u8], points: &mut [u8]) -> u32 {
+    // SAFETY: as in `unpack_complex`.
+    unsafe {
+        c::cleatmow_unpack(
+            section5.as_ptr(),
+            section5.len(),
+            payload.as_ptr(),
+            payload.len(),
+            points.as_mut_ptr(),
+            points.len(),
         )
     }
 }

@@ -4,7 +4,7 @@ use std::fmt;
 use std::marker::PhantomData;
 use std::slice::ChunksExact;
 
-/// What stands in lent octets, each of one size: a point, a level, a group.
+/// What stands in lent octets, each of one size: a point, a level, a group, a field.
 pub trait InOctets: Sized {
     /// How many octets one takes.
     const OCTETS: usize;
@@ -25,8 +25,8 @@ impl One<'_> {
 }
 
 /// What a call has left at the front of the octets that it was lent: [`Points`](crate::Points),
-/// [`Levels`](crate::Levels) or [`Groups`](crate::Groups). A view has as many places as the answer, and none past it,
-/// however much was lent. Nothing is copied: each is read from its octets when it is asked for.
+/// [`Levels`](crate::Levels), [`Groups`](crate::Groups) or [`Fields`](crate::Fields). A view has as many places as the
+/// answer, and none past it, however much was lent. Nothing is copied: each is read from its octets when it is asked for.
 ///
 /// Only a call that was not refused makes one. Octets that no call has filled cannot be taken for an answer:
 ///
@@ -140,13 +140,13 @@ impl<T: InOctets> ExactSizeIterator for FilledIter<'_, T> {}
 #[cfg(test)]
 mod tests {
     use super::{InOctets, One};
-    use crate::{Group, Point, GROUP_OCTETS, LEVEL_OCTETS, POINT_OCTETS};
+    use crate::{Group, Point, FIELD_OCTETS, GROUP_OCTETS, LEVEL_OCTETS, POINT_OCTETS};
 
     fn point(mark: u8, number: i64) -> Point {
         Point::from_octets(One(&[&[mark], &number.to_be_bytes()[..]].concat()))
     }
 
-    /// Octets are read as document 01 has them.
+    /// Octets are read as the documents have them.
     #[test]
     fn what_stands_in_octets() {
         assert_eq!((Point::OCTETS, u16::OCTETS, Group::OCTETS), (POINT_OCTETS, LEVEL_OCTETS, GROUP_OCTETS));
@@ -160,6 +160,7 @@ mod tests {
         let group = Group { start: 0x0001_0203, length: 0x0405_0607, least: 0x0809_0A0B, width: 0x0C0D_0E0F };
         assert_eq!(Group::from_octets(One(&octets)), group);
         assert_eq!(u16::from_octets(One(&[0x12, 0x34])), 0x1234);
+        assert_eq!((u32::from_octets(One(&[0x12, 0x34, 0x56, 0x78])), u32::OCTETS), (0x1234_5678, FIELD_OCTETS));
     }
 
     /// No call leaves another mark, and it is not shown as a point.

@@ -2,7 +2,7 @@
 //!
 //! Messages, grids and bitmaps are outside document 01. What is read of them here is a convenience for hosts, run by
 //! tests and without a promise: the sections of a field as they stand in the file, to be handed to
-//! [`Section5::from_octets`](crate::Section5::from_octets) and [`payload_of`](crate::payload_of).
+//! [`unpack`](crate::unpack), the second by way of [`payload_of`](crate::payload_of).
 //!
 //! No length in a file is trusted. A message whose lengths, order of sections or end are not those of a whole one makes
 //! the file one that is not read, since the fields behind it could be counted wrongly. Reading goes through the octets

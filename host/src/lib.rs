@@ -1,5 +1,6 @@
 //! Safe calls to Cleatmow, the integer part of GRIB2's Section 7, which is written and proved in Rattle. What a call
-//! answers is decided by document 01, "Scope and rules"; this crate lends the buffers and names the refusals.
+//! answers is decided by document 01, "Scope and rules", and document 02, "Requests"; this crate lends the buffers and
+//! names the refusals.
 //!
 //! A Rust host depends on this folder and calls:
 //!
@@ -8,13 +9,54 @@
 //! cleatmow = { path = "../cleatmow/host" }
 //! ```
 //!
+//! A map comes as its Section 5 and its Section 7, and is unpacked from their octets. Nobody types a template number:
+//!
 //! ```
-//! let levels = cleatmow::run_length(4, 9, 10, &[0x3C, 0xB5])?;
-//! assert_eq!(levels, [3, 3, 3, 3, 3, 3, 3, 3, 3, 5]);
+//! use cleatmow::{payload_of, unpack, Point};
+//!
+//! let section5 = [
+//!     0, 0, 0, 47, 5, 0, 0, 0, 4, 0, 2, 0, 0, 0, 0, 0, 0, 0, 0, 3, 0, 1, 0, 255, 255, 255, 255, 255, 255, 255, 255, 0,
+//!     0, 0, 2, 0, 1, 0, 0, 0, 3, 0, 0, 0, 0, 1, 0,
+//! ];
+//! let section7 = [0, 0, 0, 8, 7, 0xBC, 0x80, 0x40];
+//! assert_eq!(unpack(&section5, payload_of(&section7)?)?, [5, 6, 5, 7].map(Point::Number));
+//! # Ok::<(), Box<dyn std::error::Error>>(())
+//! ```
+//!
+//! Packing goes the other way, from a list of numbers to a payload and the template numbers that read it; of these
+//! Section 5 is written:
+//!
+//! ```
+//! use cleatmow::{pack, unpack, Physical, Point, Section5};
+//!
+//! let numbers = [0, 0, 0, 0, 8, 8, 8];
+//! let packing = pack(&numbers, 2)?;
+//! assert_eq!(packing.payload, [0x08]);
+//! assert_eq!(packing.groups.len(), 2);
+//! let section5 = Section5::of_packing(7, &packing.template, &Physical::default());
+//! let points = unpack(&section5, &packing.payload)?;
+//! assert_eq!(points, numbers.map(|number| Point::Number(number.into())));
 //! # Ok::<(), cleatmow::Refusal>(())
 //! ```
 //!
-//! Templates 5.2 and 5.3 hand over the numbers of Section 5 by name:
+//! A call that ends with `_into` fills octets that its caller keeps, and answers a view over what it filled. No list is
+//! made, and nothing past the answer can be taken for a part of it:
+//!
+//! ```
+//! use cleatmow::{numbers_of_points, pack, unpack_into, Physical, Point, Section5, POINT_OCTETS};
+//!
+//! let mut kept = vec![0; 1_000 * POINT_OCTETS];
+//! let packing = pack(&[5, 6, 5, 7], 4)?;
+//! let section5 = Section5::of_packing(4, &packing.template, &Physical::default());
+//! let points = unpack_into(&section5, &packing.payload, &mut kept)?;
+//! assert_eq!((points.len(), points.get(3), points.get(4)), (4, Some(Point::Number(7)), None));
+//! // To pack them again, or to reckon with them, is to be told of a missing point: none is left out, none becomes 0.
+//! assert_eq!(numbers_of_points(points)?, [5, 6, 5, 7]);
+//! assert_eq!(points.numbers()?.sum::<i64>(), 23);
+//! # Ok::<(), Box<dyn std::error::Error>>(())
+//! ```
+//!
+//! A host that has the template numbers and no Section 5 hands them over by name:
 //!
 //! ```
 //! use cleatmow::{unpack_complex, unpack_spatial, Differences, Point, Template};
@@ -54,39 +96,18 @@
 //! # Ok::<(), cleatmow::Refusal>(())
 //! ```
 //!
-//! Packing goes the other way, from a list of numbers to a payload and the template numbers that read it:
+//! Run-length maps take the numbers of template 5.200:
 //!
 //! ```
-//! use cleatmow::{pack, unpack_complex, Point};
-//!
-//! let numbers = [0, 0, 0, 0, 8, 8, 8];
-//! let packing = pack(&numbers, 2)?;
-//! assert_eq!(packing.payload, [0x08]);
-//! assert_eq!(packing.groups.len(), 2);
-//! let points = unpack_complex(&packing.template, 7, &packing.payload)?;
-//! assert_eq!(points, numbers.map(|number| Point::Number(number.into())));
+//! let levels = cleatmow::run_length(4, 9, 10, &[0x3C, 0xB5])?;
+//! assert_eq!(levels, [3, 3, 3, 3, 3, 3, 3, 3, 3, 5]);
 //! # Ok::<(), cleatmow::Refusal>(())
 //! ```
 //!
-//! A call that ends with `_into` fills octets that its caller keeps, and answers a view over what it filled. No list is
-//! made, and nothing past the answer can be taken for a part of it:
-//!
-//! ```
-//! use cleatmow::{numbers_of_points, pack, unpack_complex_into, Point, POINT_OCTETS};
-//!
-//! let mut kept = vec![0; 1_000 * POINT_OCTETS];
-//! let packing = pack(&[5, 6, 5, 7], 4)?;
-//! let points = unpack_complex_into(&packing.template, 4, &packing.payload, &mut kept)?;
-//! assert_eq!((points.len(), points.get(3), points.get(4)), (4, Some(Point::Number(7)), None));
-//! // To pack them again, or to reckon with them, is to be told of a missing point: none is left out, none becomes 0.
-//! assert_eq!(numbers_of_points(points)?, [5, 6, 5, 7]);
-//! assert_eq!(points.numbers()?.sum::<i64>(), 23);
-//! # Ok::<(), Box<dyn std::error::Error>>(())
-//! ```
-//!
-//! [`Section5`] reads and writes Section 5 itself: it hands the template numbers over and judges none of them.
-//! [`payload_of`] takes the header off a Section 7, and [`grib2`] finds both sections in a GRIB2 file. `desk`, the command
-//! of this crate, works on such files and sections; `desk --help` says how.
+//! [`read_section5`] and [`write_section5`] turn Section 5 into its fields and back, and judge none of the template's
+//! numbers; [`Section5`] has them by name, and reads template 5.200 too. [`payload_of`] takes the header off a
+//! Section 7, and [`grib2`] finds both sections in a GRIB2 file. `desk`, the command of this crate, works on such files
+//! and sections; `desk --help` says how.
 //!
 //! The build of this crate runs `rt staticlib cleatmow` in the folder above and links the archive; `rt`, the Rattle
 //! toolchain, must be on the PATH. `CLEATMOW_ARCHIVE_DIR` names a folder that has `libcleatmow.a` already, and nothing
@@ -96,6 +117,7 @@
 
 #[allow(unsafe_code)]
 mod ffi;
+mod fields;
 mod filled;
 pub mod grib2;
 mod packing;
@@ -107,6 +129,10 @@ mod section5;
 mod section7;
 mod unpacking;
 
+pub use fields::{
+    field, read_section5, read_section5_into, write_section5, write_section5_into, Fields, FIELD_OCTETS,
+    SECTION5_COMPLEX_FIELDS, SECTION5_COMPLEX_OCTETS, SECTION5_SPATIAL_FIELDS, SECTION5_SPATIAL_OCTETS,
+};
 pub use filled::{Filled, FilledIter, InOctets};
 pub use packing::{
     numbers_as_octets, numbers_of_points, pack, pack_into, Group, Groups, Packed, Packing, GREATEST_LOOKAHEAD,
@@ -119,7 +145,8 @@ pub use section::NotSection;
 pub use section5::{Physical, Section5, TemplateNumbers};
 pub use section7::{payload_of, section7_of};
 pub use unpacking::{
-    lent_points, unpack_complex, unpack_complex_into, unpack_spatial, unpack_spatial_into, Differences, Template,
+    lent_points, unpack, unpack_complex, unpack_complex_into, unpack_into, unpack_spatial, unpack_spatial_into,
+    Differences, Template,
 };
 
 /// The README's program in Rust is a documentation test.

@@ -33,7 +33,11 @@ pub enum Refusal {
     /// A restored number is beyond 2^60 either way.
     Beyond = 12,
     /// Packing: list empty or above 4,194,304 numbers, a number above 2,147,483,647, lookahead outside 1 to 65,535.
+    /// Writing Section 5: a number that its octets do not hold.
     Numbers = 13,
+    /// Section 5: fewer octets than its template has, a length that is not its template's, a section number other than
+    /// 5, or a template other than 5.2 and 5.3.
+    Section5 = 14,
 }
 
 impl Refusal {
@@ -52,9 +56,10 @@ impl Refusal {
         Refusal::Repeat,
         Refusal::Beyond,
         Refusal::Numbers,
+        Refusal::Section5,
     ];
 
-    /// The number that document 01's table gives it.
+    /// The number that document 01 or document 02 gives it.
     pub fn number(self) -> u32 {
         self as u32
     }
@@ -116,7 +121,12 @@ impl Refusal {
             }
             Refusal::Numbers => {
                 "the numbers cannot be packed: there are none or more than 4,194,304 of them, \
-                 one is above 2,147,483,647, or the lookahead is not 1 to 65,535"
+                 one is above 2,147,483,647, or the lookahead is not 1 to 65,535; \
+                 or a number does not fit its octets of Section 5"
+            }
+            Refusal::Section5 => {
+                "this is no whole Section 5 of template 5.2 or 5.3: it has too few octets or fields, \
+                 or another length, section number or template"
             }
         }
     }

@@ -3,23 +3,30 @@
 use std::error::Error;
 use std::fmt;
 
-/// What follows the header of a whole section: its length in four octets, and its number.
-pub(crate) fn headed(section: u8, octets: &[u8]) -> Result<&[u8], NotSection> {
-    let count = octets.len();
-    let Some(([length @ .., number], rest)) = octets.split_first_chunk::<5>() else {
-        return Err(NotSection::Short { section, count });
-    };
-    if *number != section {
-        return Err(NotSection::Number { section, number: *number });
+/// The length that a section says in its first four octets, and what follows its number.
+pub(crate) fn headed(section: u8, octets: &[u8]) -> Result<(u32, &[u8]), NotSection> {
+    match octets.split_first_chunk::<5>() {
+        None => Err(NotSection::Short { section, count: octets.len() }),
+        Some(([length @ .., number], rest)) if *number == section => Ok((u32::from_be_bytes(*length), rest)),
+        Some(([.., number], _)) => Err(NotSection::Number { section, number: *number }),
     }
-    let length = u32::from_be_bytes(*length);
-    if usize::try_from(length) != Ok(count) {
-        return Err(NotSection::Length { section, length, count });
-    }
-    Ok(rest)
 }
 
-/// Why octets are not the section that is looked for. `Display` has a sentence for the log.
+/// Whether these octets are as many as their section says.
+pub(crate) fn whole(section: u8, length: u32, octets: &[u8]) -> Result<(), NotSection> {
+    let count = octets.len();
+    if usize::try_from(length) == Ok(count) {
+        Ok(())
+    } else {
+        Err(NotSection::Length { section, length, count })
+    }
+}
+
+/// Why octets are not the section that is looked for, whole and alone. `Display` has a sentence for the log.
+///
+/// Of a Section 5 under template 5.2 or 5.3, [`read_section5`](crate::read_section5) answers
+/// [`Refusal::Section5`](crate::Refusal::Section5) for all of these but one: it does not look at octets behind the
+/// section.
 #[derive(Clone, Copy, Debug, PartialEq, Eq)]
 #[non_exhaustive]
 pub enum NotSection {
@@ -37,7 +44,7 @@ pub enum NotSection {
         /// The number that they say.
         number: u8,
     },
-    /// The section says another length than it has.
+    /// The section says another length than it has: it was cut off, or octets stand behind it.
     Length {
         /// The section that is looked for.
         section: u8,
@@ -51,32 +58,34 @@ pub enum NotSection {
         /// The template's number.
         template: u16,
     },
-    /// A Section 5 that does not have as many octets as its template.
+    /// A Section 5 that says a length which is not its template's.
     Size {
         /// The template's number.
         template: u16,
-        /// How many octets there are.
-        count: usize,
+        /// What it says.
+        length: u32,
     },
 }
 
 impl fmt::Display for NotSection {
     fn fmt(&self, f: &mut fmt::Formatter<'_>) -> fmt::Result {
         match self {
-            NotSection::Short { section, count } => {
-                write!(f, "this is no Section {section}: it has {count} octets, too few for one")
-            }
-            NotSection::Number { section, number } => {
-                write!(f, "this is no Section {section}: its section number is {number}")
+            NotSection::Short { section, count } => write!(f, "{count} octets are too few for a Section {section}"),
+            NotSection::Number { section, number } => write!(f, "the section number is {number}, and not {section}"),
+            NotSection::Length { section, length, count } if u64::from(*length) < *count as u64 => {
+                write!(f, "octets stand behind Section {section}: it says that it has {length}, and {count} are there")
             }
             NotSection::Length { section, length, count } => {
-                write!(f, "this is no whole Section {section}: it says that it has {length} octets, and it has {count}")
+                write!(f, "Section {section} says that it has {length} octets, and {count} are there")
             }
             NotSection::Template { template } => {
-                write!(f, "this Section 5 is of template 5.{template}, whose numbers are not read here")
+                write!(f, "Section 5 is of template 5.{template}, whose numbers are not read here")
             }
-            NotSection::Size { template, count } => {
-                write!(f, "this is no Section 5 of template 5.{template}: it has {count} octets, not that template's")
+            NotSection::Size { template, length } => {
+                write!(
+                    f,
+                    "Section 5 says that it has {length} octets, which is not the length of template 5.{template}"
+                )
             }
         }
     }

@@ -3,8 +3,11 @@
 //! Nothing is judged here but that the octets are one whole Section 5 of a template that is known. Its numbers are
 //! handed over as they are; unpacking judges them. Messages and grids stay outside.
 
-use crate::section::{headed, NotSection};
-use crate::{Differences, Packing, Template};
+use crate::section::{headed, whole, NotSection};
+use crate::{
+    field, read_section5, write_section5, Differences, Packing, Template, SECTION5_COMPLEX_FIELDS,
+    SECTION5_COMPLEX_OCTETS, SECTION5_SPATIAL_OCTETS,
+};
 
 /// A Section 5, read.
 #[derive(Clone, Copy, Debug, PartialEq, Eq)]
@@ -37,12 +40,16 @@ pub enum TemplateNumbers {
     },
 }
 
-/// How numbers become physical values. Document 01 leaves that outside, so it is carried from one Section 5 to another
-/// as bits.
-#[derive(Clone, Copy, Debug, PartialEq, Eq)]
+/// How numbers become physical values. Document 01 leaves that outside, so it is carried from one Section 5 to another as
+/// bits. The default has none of them set: numbers are then physical values as they are.
+#[derive(Clone, Copy, Debug, Default, PartialEq, Eq)]
 pub struct Physical {
-    /// Reference value, binary scale and decimal scale. Octets 12 to 19.
-    pub scaling: [u8; 8],
+    /// Reference value. Octets 12 to 15.
+    pub reference: u32,
+    /// Binary scale. Octets 16 and 17.
+    pub binary_scale: u16,
+    /// Decimal scale. Octets 18 and 19.
+    pub decimal_scale: u16,
     /// Original field type. Octet 21.
     pub field_type: u8,
 }
@@ -52,47 +59,92 @@ impl Section5 {
     ///
     /// # Errors
     ///
-    /// [`NotSection`] where the octets are not one whole Section 5 of template 5.2, 5.3 or 5.200.
+    /// [`NotSection`] where the octets are not one whole Section 5 of template 5.2, 5.3 or 5.200, and nothing else.
     pub fn from_octets(octets: &[u8]) -> Result<Section5, NotSection> {
-        let count = octets.len();
-        let mut rest = Rest(headed(5, octets)?);
+        match read_section5(octets) {
+            Ok(fields) => {
+                whole(5, fields[field::SECTION_LENGTH], octets)?;
+                Ok(Section5::of_fields(&fields))
+            }
+            Err(_) => Section5::of_no_fields(octets),
+        }
+    }
+
+    /// What the fields of template 5.2 or 5.3 say.
+    fn of_fields(fields: &[u32]) -> Section5 {
+        let one = |place: usize| u8::try_from(fields[place]).expect("a field of one octet");
+        let two = |place: usize| u16::try_from(fields[place]).expect("a field of two octets");
+        let template = Template {
+            number_width: one(field::NUMBER_WIDTH),
+            splitting: one(field::SPLITTING),
+            missing: one(field::MISSING),
+            groups: fields[field::GROUPS],
+            width_reference: one(field::WIDTH_REFERENCE),
+            width_bits: one(field::WIDTH_BITS),
+            length_reference: fields[field::LENGTH_REFERENCE],
+            length_increment: one(field::INCREMENT),
+            last_length: fields[field::LAST_LENGTH],
+            length_bits: one(field::LENGTH_BITS),
+        };
+        let differences = (fields.len() > SECTION5_COMPLEX_FIELDS)
+            .then(|| Differences { order: one(field::ORDER), descriptor_octets: one(field::DESCRIPTOR_OCTETS) });
+        let physical = Physical {
+            reference: fields[field::REFERENCE],
+            binary_scale: two(field::BINARY_SCALE),
+            decimal_scale: two(field::DECIMAL_SCALE),
+            field_type: one(field::FIELD_TYPE),
+        };
+        let numbers = TemplateNumbers::Groups { template, differences, physical };
+        Section5 { declared: fields[field::DECLARED], numbers }
+    }
+
+    /// A Section 5 that [`read_section5`] refuses: one of template 5.200, which no call reads, or why it is none.
+    fn of_no_fields(octets: &[u8]) -> Result<Section5, NotSection> {
+        let (length, rest) = headed(5, octets)?;
+        let mut rest = Rest(rest);
         let (Some(declared), Some(template)) = (rest.four(), rest.two()) else {
-            return Err(NotSection::Short { section: 5, count });
+            return Err(NotSection::Short { section: 5, count: octets.len() });
         };
-        let numbers = match template {
-            2 => rest.complex(),
-            3 => rest.spatial(),
-            200 => rest.run_length(),
-            _ => return Err(NotSection::Template { template }),
-        };
-        match numbers {
-            Some(numbers) if rest.0.is_empty() => Ok(Section5 { declared, numbers }),
-            _ => Err(NotSection::Size { template, count }),
+        let size = NotSection::Size { template, length };
+        match (template, length as usize) {
+            (200, _) => {
+                whole(5, length, octets)?;
+                Ok(Section5 { declared, numbers: rest.run_length().ok_or(size)? })
+            }
+            // Nothing else is left that the call refuses.
+            (2, SECTION5_COMPLEX_OCTETS) | (3, SECTION5_SPATIAL_OCTETS) => {
+                Err(NotSection::Length { section: 5, length, count: octets.len() })
+            }
+            (2 | 3, _) => Err(size),
+            _ => Err(NotSection::Template { template }),
         }
     }
 
     /// The octets of the Section 5 of a packing, which is under template 5.2 and has both missing values of
     /// [`Packing`].
     pub fn of_packing(declared: u32, template: &Template, physical: &Physical) -> Vec<u8> {
-        let fields: [&[u8]; 16] = [
-            &47_u32.to_be_bytes(),
-            &[5],
-            &declared.to_be_bytes(),
-            &2_u16.to_be_bytes(),
-            &physical.scaling,
-            &[template.number_width, physical.field_type],
-            &[template.splitting, template.missing],
-            &Packing::MISSING_VALUE.to_be_bytes(),
-            &Packing::MISSING_VALUE.to_be_bytes(),
-            &template.groups.to_be_bytes(),
-            &[template.width_reference],
-            &[template.width_bits],
-            &template.length_reference.to_be_bytes(),
-            &[template.length_increment],
-            &template.last_length.to_be_bytes(),
-            &[template.length_bits],
-        ];
-        fields.concat()
+        let mut fields = [0; SECTION5_COMPLEX_FIELDS];
+        fields[field::SECTION_LENGTH] = SECTION5_COMPLEX_OCTETS as u32;
+        fields[field::SECTION_NUMBER] = 5;
+        fields[field::DECLARED] = declared;
+        fields[field::TEMPLATE] = 2;
+        fields[field::REFERENCE] = physical.reference;
+        fields[field::BINARY_SCALE] = physical.binary_scale.into();
+        fields[field::DECIMAL_SCALE] = physical.decimal_scale.into();
+        fields[field::NUMBER_WIDTH] = template.number_width.into();
+        fields[field::FIELD_TYPE] = physical.field_type.into();
+        fields[field::SPLITTING] = template.splitting.into();
+        fields[field::MISSING] = template.missing.into();
+        fields[field::PRIMARY_MISSING] = Packing::MISSING_VALUE;
+        fields[field::SECONDARY_MISSING] = Packing::MISSING_VALUE;
+        fields[field::GROUPS] = template.groups;
+        fields[field::WIDTH_REFERENCE] = template.width_reference.into();
+        fields[field::WIDTH_BITS] = template.width_bits.into();
+        fields[field::LENGTH_REFERENCE] = template.length_reference;
+        fields[field::INCREMENT] = template.length_increment.into();
+        fields[field::LAST_LENGTH] = template.last_length;
+        fields[field::LENGTH_BITS] = template.length_bits.into();
+        write_section5(&fields).expect("each number has as many octets as its field")
     }
 
     /// 2, 3 or 200. Octets 10 and 11.
@@ -127,44 +179,10 @@ impl Rest<'_> {
         self.octets().map(u32::from_be_bytes)
     }
 
-    fn complex(&mut self) -> Option<TemplateNumbers> {
-        let (template, physical) = self.template()?;
-        Some(TemplateNumbers::Groups { template, differences: None, physical })
-    }
-
-    fn spatial(&mut self) -> Option<TemplateNumbers> {
-        let (template, physical) = self.template()?;
-        let differences = Some(Differences { order: self.one()?, descriptor_octets: self.one()? });
-        Some(TemplateNumbers::Groups { template, differences, physical })
-    }
-
-    fn template(&mut self) -> Option<(Template, Physical)> {
-        let scaling = self.octets()?;
-        let number_width = self.one()?;
-        let physical = Physical { scaling, field_type: self.one()? };
-        let (splitting, missing) = (self.one()?, self.one()?);
-        // What a reader may show for a missing point. A point has a mark here, and no number.
-        let _missing_values: [u8; 8] = self.octets()?;
-        let template = Template {
-            number_width,
-            splitting,
-            missing,
-            groups: self.four()?,
-            width_reference: self.one()?,
-            width_bits: self.one()?,
-            length_reference: self.four()?,
-            length_increment: self.one()?,
-            last_length: self.four()?,
-            length_bits: self.one()?,
-        };
-        Some((template, physical))
-    }
-
     fn run_length(&mut self) -> Option<TemplateNumbers> {
         let (bits, max_level) = (self.one()?, self.two()?);
-        // The count of the levels' values, their scale, and the values.
+        // The count of the levels' values and their scale. The values follow.
         let _values: [u8; 3] = self.octets()?;
-        self.0 = &[];
         Some(TemplateNumbers::RunLength { bits, max_level })
     }
 }

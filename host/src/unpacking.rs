@@ -1,6 +1,35 @@
 //! Unpacking under templates 5.2 and 5.3.
 
+use crate::fields::declared_points;
 use crate::{ffi, lent, Filled, Point, Points, Refusal, POINT_OCTETS};
+
+/// The points of a map, from the octets of its Section 5 and its payload. No number of the template is typed.
+///
+/// `section5` is a Section 5 of template 5.2 or 5.3, from its first octet on; octets behind it are not looked at.
+/// `payload` is Section 7 after its five-octet header.
+///
+/// # Errors
+///
+/// [`Refusal::Section5`], and then those of [`unpack_complex`] or [`unpack_spatial`], by the template, in their order.
+pub fn unpack(section5: &[u8], payload: &[u8]) -> Result<Vec<Point>, Refusal> {
+    let mut points = lent_points(declared_points(section5)?);
+    Ok(unpack_into(section5, payload, &mut points)?.iter().collect())
+}
+
+/// The points of a map, from the octets of its Section 5 and its payload, in octets that the caller lends.
+///
+/// On success the points stand at the front of `lent`, [`POINT_OCTETS`] each, and the answer is a view over them; the
+/// octets past them are unchanged. A refusal changes nothing, but for [`Refusal::Beyond`], as in
+/// [`unpack_spatial_into`]. The other arguments are those of [`unpack`].
+///
+/// # Errors
+///
+/// [`Refusal::Section5`], and then those of [`unpack_complex_into`] or [`unpack_spatial_into`], by the template, in
+/// their order.
+pub fn unpack_into<'a>(section5: &[u8], payload: &[u8], lent: &'a mut [u8]) -> Result<Points<'a>, Refusal> {
+    Refusal::answered(ffi::unpack(section5, payload, lent))?;
+    Ok(Filled::front(lent, declared_points(section5)? as usize))
+}
 
 /// The numbers of template 5.2, in Section 5's order.
 #[derive(Clone, Copy, Debug, PartialEq, Eq)]

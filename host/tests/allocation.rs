@@ -1,9 +1,10 @@
 //! What the wrappers allocate, and that the calls on lent octets do not.
 
 use cleatmow::{
-    numbers_as_octets, pack, pack_into, run_length, run_length_into, unpack_complex, unpack_complex_into,
-    unpack_spatial, unpack_spatial_into, Differences, Points, Refusal, Template, GROUP_OCTETS, LEVEL_OCTETS,
-    MOST_NUMBERS, MOST_POINTS, NUMBER_OCTETS, POINT_OCTETS, SUMMARY_OCTETS,
+    numbers_as_octets, pack, pack_into, read_section5, read_section5_into, run_length, run_length_into, unpack,
+    unpack_complex, unpack_complex_into, unpack_into, unpack_spatial, unpack_spatial_into, write_section5,
+    write_section5_into, Differences, Fields, Physical, Points, Refusal, Section5, Template, FIELD_OCTETS,
+    GROUP_OCTETS, LEVEL_OCTETS, MOST_NUMBERS, MOST_POINTS, NUMBER_OCTETS, POINT_OCTETS, SUMMARY_OCTETS,
 };
 use std::alloc::{GlobalAlloc, Layout, System};
 use std::cell::Cell;
@@ -69,6 +70,11 @@ fn template(last_length: u32) -> Template {
 
 const DIFFERENCES: Differences = Differences { order: 1, descriptor_octets: 1 };
 
+/// The Section 5 of so many points.
+fn section5(declared: u32, last_length: u32) -> Vec<u8> {
+    Section5::of_packing(declared, &template(last_length), &Physical::default())
+}
+
 #[test]
 fn the_allocator_is_watched() {
     assert_eq!(asked(|| drop(std::hint::black_box(vec![0_u8; 77]))), (1, 77));
@@ -99,6 +105,13 @@ fn nothing_is_lent_above_the_limit() {
             assert_eq!(asked(|| call(declared)), (0, 0), "{declared} declared");
         }
     }
+    let of_section5 = |octets: &[u8], refusal| asked(|| assert_eq!(unpack(octets, &[0x0C, 0x50]), Err(refusal)));
+    let most = section5(MOST_POINTS, 4);
+    assert_eq!(of_section5(&most, Refusal::Points), (1, MOST_POINTS as usize * POINT_OCTETS));
+    assert_eq!(of_section5(&most[..46], Refusal::Section5), (0, 0));
+    for declared in [MOST_POINTS + 1, 1 << 31, u32::MAX] {
+        assert_eq!(of_section5(&section5(declared, 4), Refusal::Points), (0, 0), "{declared} declared");
+    }
 }
 
 /// Points are lent once, and turned into a list of the right size.
@@ -108,6 +121,20 @@ fn a_list_of_points_is_two_requests() {
     let (requests, largest) =
         asked(|| assert_eq!(unpack_complex(&template(8_000), 8_000, &payload).unwrap().len(), 8_000));
     assert_eq!((requests, largest), (2, 8_000 * size_of::<cleatmow::Point>()));
+    let section5 = section5(8_000, 8_000);
+    let (requests, largest) = asked(|| assert_eq!(unpack(&section5, &payload).unwrap().len(), 8_000));
+    assert_eq!((requests, largest), (2, 8_000 * size_of::<cleatmow::Point>()));
+}
+
+/// The list that is answered, and what is handed on to write: no more than a Section 5 has, however much there is.
+#[test]
+fn what_section_5_asks_for() {
+    let mut octets = section5(4, 4);
+    octets.resize(1_000_000, 0);
+    let mut fields = read_section5(&octets).unwrap();
+    assert_eq!(asked(|| drop(read_section5(&octets))), (1, 20 * FIELD_OCTETS));
+    fields.resize(1_000_000, 0);
+    assert_eq!(asked(|| drop(write_section5(&fields))), (2, 22 * FIELD_OCTETS));
 }
 
 /// Of a list above the limit as much is handed on as shows that it is, and no group list is lent.
@@ -136,7 +163,22 @@ fn calls_on_lent_octets_allocate_nothing() {
     let list = numbers_as_octets(&[5, 6, 5, 7].repeat(500));
     let mut groups = vec![0; 2_000 * GROUP_OCTETS];
     let mut summary = [0; SUMMARY_OCTETS];
+    let section5 = section5(8_000, 8_000);
+    let (mut fields, mut written) = ([0; 22 * FIELD_OCTETS], [0; 49]);
     let nothing = asked(|| {
+        // Answers 0, 14 and 10; then 0, 14, 13 and 10.
+        let all = unpack_into(&section5, &payload, &mut points).unwrap();
+        assert_eq!((all.iter().count(), all.numbers().map(Iterator::count)), (8_000, Ok(8_000)));
+        assert_eq!(unpack_into(&section5[..46], &payload, &mut points), Err(Refusal::Section5));
+        assert_eq!(unpack_into(&section5, &payload, &mut points[1..]), Err(Refusal::Room));
+        assert_eq!(read_section5_into(&section5, &mut fields).map(Fields::len), Ok(20));
+        assert_eq!(read_section5_into(&section5[..46], &mut fields), Err(Refusal::Section5));
+        assert_eq!(read_section5_into(&section5, &mut fields[9..]), Err(Refusal::Room));
+        assert_eq!(write_section5_into(&fields, &mut written), Ok(&section5[..]));
+        assert_eq!(write_section5_into(&fields[9..], &mut written), Err(Refusal::Section5));
+        assert_eq!(write_section5_into(&fields, &mut written[3..]), Err(Refusal::Room));
+        fields[78] = 1;
+        assert_eq!(write_section5_into(&fields, &mut written), Err(Refusal::Numbers));
         // Answers 0, 7, 9, 10 and 12.
         let all = unpack_complex_into(&template(8_000), 8_000, &payload, &mut points).unwrap();
         assert_eq!((all.iter().count(), all.numbers().map(Iterator::count)), (8_000, Ok(8_000)));

@@ -1,4 +1,4 @@
-/* A host in C: cases of document 01 and their refusals. It ends with 0, or with the line that went wrong. */
+/* A host in C: cases of the documents and their refusals. It ends with 0, or with the line that went wrong. */
 #include "cleatmow.h"
 #include <string.h>
 
@@ -34,7 +34,10 @@ static int constants(void) {
     EXPECT(CLEATMOW_GREATEST_LOOKAHEAD == 65535);
     EXPECT(CLEATMOW_PACKING_SPLITTING == 1 && CLEATMOW_PACKING_MISSING == 0);
     EXPECT(CLEATMOW_PACKING_MISSING_VALUE == 0xFFFFFFFF);
-    EXPECT(CLEATMOW_REFUSAL_SPLITTING == 1 && CLEATMOW_REFUSAL_NUMBERS == 13);
+    EXPECT(CLEATMOW_REFUSAL_SPLITTING == 1 && CLEATMOW_REFUSAL_NUMBERS == 13 && CLEATMOW_REFUSAL_SECTION5 == 14);
+    EXPECT(CLEATMOW_SECTION5_COMPLEX_OCTETS == 47 && CLEATMOW_SECTION5_COMPLEX_FIELDS == 20);
+    EXPECT(CLEATMOW_SECTION5_SPATIAL_OCTETS == 49 && CLEATMOW_SECTION5_SPATIAL_FIELDS == 22);
+    EXPECT(CLEATMOW_FIELD_OCTETS == 4 && CLEATMOW_FIELD_DESCRIPTOR_OCTETS == 21);
     return 0;
 }
 
@@ -191,11 +194,89 @@ static int pack(void) {
     return 0;
 }
 
+/* A Section 5 of template 5.2, one of 5.3, and what stands in them. */
+static const uint8_t complex5[] = {0, 0, 0, 47, 5, 0, 0, 0, 4, 0, 2, 0xBF, 0xC0, 0, 0, 0x80, 3, 0, 1, 3, 1, 1, 0,
+    255, 255, 255, 255, 255, 255, 255, 254, 0, 0, 0, 2, 0, 1, 0, 0, 0, 3, 0, 0, 0, 0, 1, 0};
+static const uint8_t spatial5[] = {0, 0, 0, 49, 5, 0, 0, 0, 4, 0, 3, 0, 0, 0, 0, 0, 0, 0, 0, 0, 0, 1, 0,
+    0, 0, 0, 0, 0, 0, 0, 0, 0, 0, 0, 1, 3, 0, 0, 0, 0, 0, 0, 0, 0, 0, 4, 0, 1, 1};
+static const uint32_t complex_fields[] = {47, 5, 4, 2, 0xBFC00000, 0x8003, 1, 3, 1, 1, 0, 0xFFFFFFFF, 0xFFFFFFFE, 2,
+    0, 1, 3, 0, 1, 0};
+static const uint32_t spatial_fields[] = {49, 5, 4, 3, 0, 0, 0, 0, 0, 1, 0, 0, 0, 1, 3, 0, 0, 0, 4, 0, 1, 1};
+
+static int section5(void) {
+    uint8_t fields[CLEATMOW_SECTION5_SPATIAL_FIELDS * CLEATMOW_FIELD_OCTETS + 3];
+    uint8_t octets[CLEATMOW_SECTION5_SPATIAL_OCTETS + 3];
+    const size_t slots = sizeof fields, room = sizeof octets;
+    memset(fields, 0xEE, slots);
+    memset(octets, 0xEE, room);
+
+    /* 14 comes before 10. */
+    EXPECT(cleatmow_read_section5(complex5, 46, fields, 0) == CLEATMOW_REFUSAL_SECTION5);
+    EXPECT(cleatmow_read_section5(complex5 + 1, 46, fields, slots) == CLEATMOW_REFUSAL_SECTION5);
+    EXPECT(cleatmow_read_section5(complex5, sizeof complex5, fields, 79) == CLEATMOW_REFUSAL_ROOM);
+    EXPECT(cleatmow_read_section5(spatial5, sizeof spatial5, fields, 87) == CLEATMOW_REFUSAL_ROOM);
+    EXPECT(is_all(fields, slots, 0xEE));
+    EXPECT(cleatmow_read_section5(complex5, sizeof complex5, fields, slots) == 0);
+    EXPECT(are_numbers(fields, 20, complex_fields) && is_all(fields + 80, slots - 80, 0xEE));
+
+    /* 14 comes before 13, and 13 before 10. */
+    EXPECT(cleatmow_write_section5(fields, 79, octets, 0) == CLEATMOW_REFUSAL_SECTION5);
+    fields[CLEATMOW_FIELD_OCTETS * CLEATMOW_FIELD_LENGTH_BITS + 2] = 1;
+    EXPECT(cleatmow_write_section5(fields, 80, octets, 0) == CLEATMOW_REFUSAL_NUMBERS);
+    fields[CLEATMOW_FIELD_OCTETS * CLEATMOW_FIELD_SECTION_NUMBER + 3] = 7;
+    EXPECT(cleatmow_write_section5(fields, 80, octets, room) == CLEATMOW_REFUSAL_SECTION5);
+    fields[CLEATMOW_FIELD_OCTETS * CLEATMOW_FIELD_SECTION_NUMBER + 3] = 5;
+    fields[CLEATMOW_FIELD_OCTETS * CLEATMOW_FIELD_LENGTH_BITS + 2] = 0;
+    EXPECT(cleatmow_write_section5(fields, 80, octets, 46) == CLEATMOW_REFUSAL_ROOM);
+    EXPECT(is_all(octets, room, 0xEE));
+    EXPECT(cleatmow_write_section5(fields, 80, octets, room) == 0);
+    EXPECT(memcmp(octets, complex5, 47) == 0 && is_all(octets + 47, room - 47, 0xEE));
+
+    EXPECT(cleatmow_read_section5(spatial5, sizeof spatial5, fields, slots) == 0);
+    EXPECT(are_numbers(fields, 22, spatial_fields) && is_all(fields + 88, slots - 88, 0xEE));
+    EXPECT(cleatmow_write_section5(fields, slots, octets, room) == 0);
+    EXPECT(memcmp(octets, spatial5, 49) == 0 && is_all(octets + 49, room - 49, 0xEE));
+
+    /* No octets, no fields and empty buffers, as null pointers. */
+    EXPECT(cleatmow_read_section5(NULL, 0, NULL, 0) == CLEATMOW_REFUSAL_SECTION5);
+    EXPECT(cleatmow_read_section5(complex5, sizeof complex5, NULL, 0) == CLEATMOW_REFUSAL_ROOM);
+    EXPECT(cleatmow_write_section5(NULL, 0, NULL, 0) == CLEATMOW_REFUSAL_SECTION5);
+    EXPECT(cleatmow_write_section5(fields, slots, NULL, 0) == CLEATMOW_REFUSAL_ROOM);
+    return 0;
+}
+
+static int unpack(void) {
+    const uint8_t numbers[] = {0xBC, 0x80, 0x40}, differences[] = {0x0A, 0x82, 0x0C, 0x50};
+    uint8_t points[4 * CLEATMOW_POINT_OCTETS + 3];
+    const size_t room = sizeof points;
+    memset(points, 0xEE, room);
+
+    EXPECT(cleatmow_unpack(complex5, 46, numbers, 3, points, room) == CLEATMOW_REFUSAL_SECTION5);
+    EXPECT(cleatmow_unpack(complex5, 47, numbers, 2, points, room) == CLEATMOW_REFUSAL_SHORT);
+    EXPECT(cleatmow_unpack(complex5, 47, numbers, 3, points, 35) == CLEATMOW_REFUSAL_ROOM);
+    EXPECT(cleatmow_unpack(spatial5, 48, differences, 4, points, room) == CLEATMOW_REFUSAL_SECTION5);
+    EXPECT(cleatmow_unpack(spatial5, 49, differences, 1, points, room) == CLEATMOW_REFUSAL_SHORT);
+    EXPECT(cleatmow_unpack(NULL, 0, NULL, 0, NULL, 0) == CLEATMOW_REFUSAL_SECTION5);
+    EXPECT(is_all(points, room, 0xEE));
+
+    EXPECT(cleatmow_unpack(complex5, 47, numbers, 3, points, room) == 0);
+    EXPECT(is_point(points, 0, 5) && is_point(points + 9, 0, 6));
+    EXPECT(is_point(points + 18, 0, 5) && is_point(points + 27, 0, 7));
+    EXPECT(is_all(points + 36, 3, 0xEE));
+    EXPECT(cleatmow_unpack(spatial5, 49, differences, 4, points, room) == 0);
+    EXPECT(is_point(points, 0, 10) && is_point(points + 9, 0, 11));
+    EXPECT(is_point(points + 18, 0, 9) && is_point(points + 27, 0, 12));
+    EXPECT(is_all(points + 36, 3, 0xEE));
+    return 0;
+}
+
 int main(void) {
     int line = constants();
     if (line == 0) line = unpack_complex();
     if (line == 0) line = unpack_spatial();
     if (line == 0) line = run_length();
     if (line == 0) line = pack();
+    if (line == 0) line = section5();
+    if (line == 0) line = unpack();
     return line;
 }

@@ -2,7 +2,7 @@
 
 mod support;
 
-use cleatmow::{run_length, Point, Refusal, TemplateNumbers};
+use cleatmow::{run_length, unpack, Point, Refusal, TemplateNumbers};
 use std::collections::HashSet;
 use support::model::{self, Input};
 use support::others::{maps, Map, LINES};
@@ -31,11 +31,13 @@ fn input(map: &Map) -> Input {
 
 #[test]
 fn maps_under_5_2() {
+    hold(2, 49, |map| unpack(&map.section5_octets, &map.payload));
     hold(2, 49, |map| input(map).points());
 }
 
 #[test]
 fn maps_under_5_3() {
+    hold(3, 49, |map| unpack(&map.section5_octets, &map.payload));
     hold(3, 49, |map| input(map).points());
 }
 
@@ -97,7 +99,7 @@ fn malformed_lines_are_told() {
             (" doc=same", ""),
             (" doc=same", " doc=refused"),
             (" doc=same", " doc=refused-0"),
-            (" doc=same", " doc=refused-14"),
+            (" doc=same", " doc=refused-99"),
             ("s5=00000023", "s5=00000024"),
             ("s5=0000002305", "s5=0000002307"),
             ("s5=00000023050000000a", "s5=00000023050000000b"),

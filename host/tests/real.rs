@@ -2,7 +2,9 @@
 
 mod support;
 
-use cleatmow::{payload_of, section7_of, Point, Refusal, Section5, POINT_OCTETS};
+use cleatmow::{
+    payload_of, read_section5, section7_of, unpack, unpack_into, write_section5, Point, Refusal, Section5, POINT_OCTETS,
+};
 use support::model::Input;
 use support::sha256::sha256;
 
@@ -89,16 +91,34 @@ fn template_numbers_are_the_tables() {
     }
 }
 
+/// Section 5 is what is written of its fields.
+#[test]
+fn fields_are_the_tables() {
+    for map in MAPS {
+        let fields = read_section5(map.section5).expect(map.name);
+        assert_eq!(write_section5(&fields).as_deref(), Ok(map.section5), "{}", map.name);
+        let count = if map.template == 3 { 22 } else { 20 };
+        assert_eq!((fields.len(), fields[2], fields[3]), (count, map.points, map.template.into()), "{}", map.name);
+        assert_eq!((fields[10], fields[13]), (map.missing_management.into(), map.groups), "{}", map.name);
+        let differences = map.differences.map_or(vec![], |(order, octets)| vec![order.into(), octets.into()]);
+        assert_eq!(fields[20..], differences, "{}", map.name);
+    }
+}
+
 #[test]
 fn points_are_the_tables() {
     for map in MAPS {
         let input = map.input();
+        let digest = |octets: &[u8]| sha256(octets).iter().map(|octet| format!("{octet:02x}")).collect::<String>();
         let mut octets = vec![0xEE; map.points as usize * POINT_OCTETS];
         assert_eq!(input.call(&mut octets), 0, "{}", map.name);
-        let digest: String = sha256(&octets).iter().map(|octet| format!("{octet:02x}")).collect();
-        assert_eq!(digest, map.digest, "{}", map.name);
+        assert_eq!(digest(&octets), map.digest, "{}", map.name);
+        octets.fill(0xEE);
+        let view = unpack_into(map.section5, &input.payload, &mut octets).expect(map.name);
+        assert_eq!((digest(view.octets()), view.len()), (map.digest.into(), map.points as usize), "{}", map.name);
 
         let points = input.points().unwrap();
+        assert!(unpack(map.section5, &input.payload).is_ok_and(|same| same == points), "{}", map.name);
         let view = input.view(&mut octets).expect(map.name);
         assert!(view.iter().eq(points.iter().copied()), "{}", map.name);
         let mut numbers = Vec::new();
@@ -123,6 +143,10 @@ fn damaged_maps_are_refused() {
         for len in [0, 1, whole.payload.len() / 2, whole.payload.len() - 1] {
             let cut = Input { payload: whole.payload[..len].to_vec(), ..map.input() };
             assert_eq!(cut.points(), Err(Refusal::Short), "{}", map.name);
+            assert_eq!(unpack(map.section5, &whole.payload[..len]), Err(Refusal::Short), "{}", map.name);
+        }
+        for len in 0..map.section5.len() {
+            assert_eq!(unpack(&map.section5[..len], &whole.payload), Err(Refusal::Section5), "{}", map.name);
         }
         for declared in [0, map.points - 1, map.points + 1] {
             assert_eq!(Input { declared, ..map.input() }.points(), Err(Refusal::Points), "{}", map.name);

@@ -1,29 +1,31 @@
 //! The refusals' numbers and sentences, and the constants that the C header repeats.
 
 use cleatmow::{
-    Packing, Refusal, GREATEST_LOOKAHEAD, GREATEST_NUMBER, GROUP_OCTETS, LEVEL_OCTETS, MOST_NUMBERS, MOST_POINTS,
-    NUMBER_OCTETS, POINT_OCTETS, SUMMARY_OCTETS,
+    field, Packing, Refusal, FIELD_OCTETS, GREATEST_LOOKAHEAD, GREATEST_NUMBER, GROUP_OCTETS, LEVEL_OCTETS,
+    MOST_NUMBERS, MOST_POINTS, NUMBER_OCTETS, POINT_OCTETS, SECTION5_COMPLEX_FIELDS, SECTION5_COMPLEX_OCTETS,
+    SECTION5_SPATIAL_FIELDS, SECTION5_SPATIAL_OCTETS, SUMMARY_OCTETS,
 };
 use std::collections::HashSet;
 use std::error::Error;
 
 const HEADER: &str = include_str!("../../include/cleatmow.h");
 
-/// All rows of document 01's table.
+/// All rows of document 01's table, and those of document 02's requests.
 fn table() -> impl Iterator<Item = (u32, Refusal)> {
-    (1..=13).map(|number| (number, Refusal::from_number(number).expect("a row")))
+    (1..=14).map(|number| (number, Refusal::from_number(number).expect("a row")))
 }
 
 #[test]
 fn numbers_are_the_tables() {
     assert!(table().all(|(number, refusal)| refusal.number() == number));
     assert!(Refusal::ALL.iter().copied().eq(table().map(|(_, refusal)| refusal)));
-    for number in [0, 14, 255, 256 + 9, u32::MAX] {
+    for number in [0, 15, 255, 256 + 9, u32::MAX] {
         assert_eq!(Refusal::from_number(number), None);
     }
     assert_eq!((Refusal::Splitting.number(), Refusal::Numbers.number()), (1, 13));
     assert_eq!((Refusal::Width.number(), Refusal::Repeat.number()), (5, 11));
     assert_eq!((Refusal::Points.number(), Refusal::Room.number()), (9, 10));
+    assert_eq!(Refusal::Section5.number(), 14);
 }
 
 #[test]
@@ -40,9 +42,10 @@ fn each_has_a_sentence_of_its_own_for_the_log() {
     }
 }
 
-/// Whether the header has this line.
+/// Whether the header has this line, but for a comment behind it.
 fn has(line: String) -> bool {
-    HEADER.lines().any(|read| read.trim_matches([' ', ',']) == line)
+    let code = |read: &'static str| read.split("/*").next().unwrap_or_default();
+    HEADER.lines().any(|read| code(read).trim_matches([' ', ',']) == line)
 }
 
 #[test]
@@ -66,9 +69,34 @@ fn the_header_says_the_same() {
     assert!(has(format!("#define CLEATMOW_NUMBER_OCTETS {NUMBER_OCTETS}")));
     assert!(has(format!("#define CLEATMOW_GROUP_OCTETS {GROUP_OCTETS}")));
     assert!(has(format!("#define CLEATMOW_SUMMARY_OCTETS {SUMMARY_OCTETS}")));
+    assert!(has(format!("#define CLEATMOW_FIELD_OCTETS {FIELD_OCTETS}")));
+    assert!(has(format!("#define CLEATMOW_SECTION5_COMPLEX_OCTETS {SECTION5_COMPLEX_OCTETS}")));
+    assert!(has(format!("#define CLEATMOW_SECTION5_COMPLEX_FIELDS {SECTION5_COMPLEX_FIELDS}")));
+    assert!(has(format!("#define CLEATMOW_SECTION5_SPATIAL_OCTETS {SECTION5_SPATIAL_OCTETS}")));
+    assert!(has(format!("#define CLEATMOW_SECTION5_SPATIAL_FIELDS {SECTION5_SPATIAL_FIELDS}")));
     assert!(has(format!("#define CLEATMOW_PACKING_SPLITTING {}", Packing::SPLITTING)));
     assert!(has(format!("#define CLEATMOW_PACKING_MISSING {}", Packing::MISSING)));
     assert!(has(format!("#define CLEATMOW_PACKING_MISSING_VALUE {:#x}", Packing::MISSING_VALUE)));
+}
+
+/// The names of the fields' places, in the order of document 02's table.
+macro_rules! fields {
+    ($($name:ident)*) => { [$((stringify!($name), field::$name)),*] };
+}
+
+#[test]
+fn the_header_has_the_places_of_the_fields() {
+    let fields = fields![
+        SECTION_LENGTH SECTION_NUMBER DECLARED TEMPLATE REFERENCE BINARY_SCALE DECIMAL_SCALE NUMBER_WIDTH FIELD_TYPE
+        SPLITTING MISSING PRIMARY_MISSING SECONDARY_MISSING GROUPS WIDTH_REFERENCE WIDTH_BITS LENGTH_REFERENCE INCREMENT
+        LAST_LENGTH LENGTH_BITS ORDER DESCRIPTOR_OCTETS
+    ];
+    assert!(fields.iter().map(|(_, place)| *place).eq(0..SECTION5_SPATIAL_FIELDS));
+    assert_eq!(field::ORDER, SECTION5_COMPLEX_FIELDS);
+    for (name, place) in fields {
+        assert!(has(format!("CLEATMOW_FIELD_{name} = {place}")), "{name}");
+    }
+    assert_eq!(HEADER.matches("    CLEATMOW_FIELD_").count(), SECTION5_SPATIAL_FIELDS);
 }
 
 #[test]

@@ -1,7 +1,8 @@
 //! Section 5: read as it stands, and written for a packing. And Section 7: its header, and the payload after it.
 
 use cleatmow::{
-    payload_of, section7_of, Differences, NotSection, Packing, Physical, Section5, Template, TemplateNumbers,
+    pack, payload_of, read_section5, section7_of, unpack, Differences, NotSection, Packing, Physical, Point, Refusal,
+    Section5, Template, TemplateNumbers,
 };
 use std::error::Error;
 
@@ -13,7 +14,8 @@ fn section(template: u16, count: u8) -> Vec<u8> {
     octets
 }
 
-const PHYSICAL: Physical = Physical { scaling: [12, 13, 14, 15, 16, 17, 18, 19], field_type: 21 };
+const PHYSICAL: Physical =
+    Physical { reference: 0x0C0D_0E0F, binary_scale: 0x1011, decimal_scale: 0x1213, field_type: 21 };
 
 const TEMPLATE: Template = Template {
     number_width: 20,
@@ -64,37 +66,74 @@ fn numbers_are_not_judged() {
 #[test]
 fn octets_that_are_none() {
     let refused = |octets: &[u8]| Section5::from_octets(octets).unwrap_err();
-    let whole = section(3, 49);
-    for count in 0..5 {
-        assert_eq!(refused(&whole[..count]), NotSection::Short { section: 5, count });
+    for (template, length) in [(2, 47), (3, 49), (200, 19)] {
+        let whole = section(template, length);
+        let size = usize::from(length);
+        for count in 0..11 {
+            assert_eq!(refused(&whole[..count]), NotSection::Short { section: 5, count });
+        }
+        for count in 11..size {
+            assert_eq!(refused(&whole[..count]), NotSection::Length { section: 5, length: length.into(), count });
+        }
+        for more in [1, 2, 300] {
+            let longer = [&whole[..], &vec![0; more]].concat();
+            let count = size + more;
+            assert_eq!(refused(&longer), NotSection::Length { section: 5, length: length.into(), count });
+        }
+        for number in [0, 4, 6, 7, 255] {
+            let octets = [&whole[..4], &[number], &whole[5..]].concat();
+            // The number comes before all that follows it.
+            for count in [5, 11, size] {
+                assert_eq!(refused(&octets[..count]), NotSection::Number { section: 5, number });
+            }
+        }
     }
-    for count in 5..49 {
-        assert_eq!(refused(&whole[..count]), NotSection::Length { section: 5, length: 49, count });
+    for template in [2, 3] {
+        let whole = section(template, 60);
+        for length in [0_u32, 11, 46, 48, 50, 47 << 8, 49 << 8, 60, u32::MAX] {
+            let octets = [&length.to_be_bytes(), &whole[4..]].concat();
+            for count in [11, 47, 49, 60] {
+                assert_eq!(refused(&octets[..count]), NotSection::Size { template, length });
+            }
+        }
     }
-    // A header that says what there is, and no whole template number after it.
-    for count in 5..11 {
-        let octets = [&[0, 0, 0, count as u8], &whole[4..count]].concat();
-        assert_eq!(refused(&octets), NotSection::Short { section: 5, count });
-    }
-    assert_eq!(refused(&[&whole[..], &[0]].concat()), NotSection::Length { section: 5, length: 49, count: 50 });
-    for length in [0_u32, 48, 50, 49 << 8, u32::MAX] {
-        let octets = [&length.to_be_bytes(), &whole[4..]].concat();
-        assert_eq!(refused(&octets), NotSection::Length { section: 5, length, count: 49 });
-    }
-    for number in [0, 4, 6, 7, 255] {
-        let octets = [&whole[..4], &[number], &whole[5..]].concat();
-        assert_eq!(refused(&octets), NotSection::Number { section: 5, number });
-        // The number comes before the length.
-        assert_eq!(refused(&octets[..40]), NotSection::Number { section: 5, number });
+    // The length of the other.
+    assert_eq!(refused(&section(2, 49)), NotSection::Size { template: 2, length: 49 });
+    assert_eq!(refused(&section(3, 47)), NotSection::Size { template: 3, length: 47 });
+    for count in 11..17 {
+        assert_eq!(refused(&section(200, count)), NotSection::Size { template: 200, length: count.into() });
     }
     for template in [0, 1, 4, 40, 199, 201, 0x0200, 0x0300, 0xC800, u16::MAX] {
-        assert_eq!(refused(&section(template, 49)), NotSection::Template { template });
+        for count in [11, 47, 49] {
+            assert_eq!(refused(&section(template, count)), NotSection::Template { template });
+        }
     }
-    for (template, count) in
-        [(2, 46), (2, 48), (2, 49), (3, 47), (3, 48), (3, 50), (200, 16), (2, 11), (3, 11), (200, 11)]
-    {
-        assert_eq!(refused(&section(template, count)), NotSection::Size { template, count: count.into() });
+}
+
+/// Where the call refuses octets, there are words for it; and where there are words for octets that it does not refuse,
+/// they are that others stand behind the section. Template 5.200 is read here alone.
+#[test]
+fn words_are_those_of_refusal_14() {
+    let is_behind = |why| matches!(why, NotSection::Length { length, count, .. } if (length as usize) < count);
+    let mut seen = [0; 4];
+    for template in [0, 2, 3, 200, 0x0203] {
+        for (length, number) in [(47, 5), (49, 5), (48, 5), (47 << 8, 5), (47, 0), (49, 7)] {
+            let mut octets = section(template, 60);
+            octets[..5].copy_from_slice(&[&u32::to_be_bytes(length)[..], &[number]].concat());
+            for count in 0..=60 {
+                let octets = &octets[..count];
+                let kind = match (read_section5(octets), Section5::from_octets(octets)) {
+                    (Ok(_), Ok(read)) if read.template_number() == template => 0,
+                    (Ok(_), Err(why)) if is_behind(why) => 1,
+                    (Err(Refusal::Section5), Ok(read)) if read.template_number() == 200 && template == 200 => 2,
+                    (Err(Refusal::Section5), Err(why)) if template == 200 || !is_behind(why) => 3,
+                    other => panic!("{octets:?}: {other:?}"),
+                };
+                seen[kind] += 1;
+            }
+        }
     }
+    assert!(seen.iter().all(|count| *count > 0), "{seen:?}");
 }
 
 #[test]
@@ -107,6 +146,39 @@ fn what_is_written_is_read() {
     let section = Section5::from_octets(&written).unwrap();
     let numbers = TemplateNumbers::Groups { template: TEMPLATE, differences: None, physical: PHYSICAL };
     assert_eq!(section, Section5 { declared: 0x0607_0809, numbers });
+}
+
+/// Document 01's case 5 6 5 7 with lookahead 4, by hand: all octets of its Section 5. The map is unpacked from them.
+#[test]
+fn the_section_5_of_a_packing() {
+    let packing = pack(&[5, 6, 5, 7], 4).unwrap();
+    // Reference value −1.5, binary scale −3, decimal scale 1, field type 1.
+    let physical = Physical { reference: 0xBFC0_0000, binary_scale: 0x8003, decimal_scale: 1, field_type: 1 };
+    let octets = [
+        &[0, 0, 0, 47, 5, 0, 0, 0, 4, 0, 2][..],
+        &[0xBF, 0xC0, 0, 0, 0x80, 3, 0, 1],
+        &[3, 1, 1, 0, 255, 255, 255, 255, 255, 255, 255, 255],
+        &[0, 0, 0, 2, 0, 1, 0, 0, 0, 3, 0, 0, 0, 0, 1, 0],
+    ]
+    .concat();
+    assert_eq!(Section5::of_packing(4, &packing.template, &physical), octets);
+    assert_eq!(unpack(&octets, &packing.payload), Ok([5, 6, 5, 7].map(Point::Number).to_vec()));
+    // All that a packing can say of itself fits: the greatest numbers of each field.
+    let greatest = Template {
+        number_width: 255,
+        splitting: 255,
+        missing: 255,
+        groups: u32::MAX,
+        width_reference: 255,
+        width_bits: 255,
+        length_reference: u32::MAX,
+        length_increment: 255,
+        last_length: u32::MAX,
+        length_bits: 255,
+    };
+    let physical = Physical { reference: u32::MAX, binary_scale: u16::MAX, decimal_scale: u16::MAX, field_type: 255 };
+    let octets = [&[0, 0, 0, 47, 5, 255, 255, 255, 255, 0, 2][..], &[255; 36]].concat();
+    assert_eq!(Section5::of_packing(u32::MAX, &greatest, &physical), octets);
 }
 
 /// The payload is what follows the header of a whole Section 7, whatever it is.
@@ -146,24 +218,26 @@ fn octets_that_have_no_payload() {
     }
 }
 
-/// Each is whole by itself, and names the section that is looked for.
+/// Each is whole by itself.
 #[test]
 fn sentences() {
     let told = |octets: &[u8]| Section5::from_octets(octets).unwrap_err().to_string();
-    assert_eq!(told(b"GRIB"), "this is no Section 5: it has 4 octets, too few for one");
-    assert_eq!(told(b"GRIB\0\0\0\x02\0\0\0\0"), "this is no Section 5: its section number is 0");
-    assert_eq!(told(&section(3, 49)[..47]), "this is no whole Section 5: it says that it has 49 octets, and it has 47");
-    assert_eq!(told(&section(40, 21)), "this Section 5 is of template 5.40, whose numbers are not read here");
-    assert_eq!(told(&section(2, 49)), "this is no Section 5 of template 5.2: it has 49 octets, not that template's");
+    assert_eq!(told(b"GRIB"), "4 octets are too few for a Section 5");
+    assert_eq!(told(b"GRIB\0\0\0\x02\0\0\0\0"), "the section number is 0, and not 5");
+    assert_eq!(told(&section(3, 49)[..47]), "Section 5 says that it has 49 octets, and 47 are there");
+    let behind = [section(3, 49), vec![0; 3]].concat();
+    assert_eq!(told(&behind), "octets stand behind Section 5: it says that it has 49, and 52 are there");
+    assert_eq!(told(&section(40, 21)), "Section 5 is of template 5.40, whose numbers are not read here");
+    let size = "Section 5 says that it has 49 octets, which is not the length of template 5.2";
+    assert_eq!(told(&section(2, 49)), size);
 
     let told = |octets: &[u8]| {
         let error: Box<dyn Error> = payload_of(octets).unwrap_err().into();
         error.to_string()
     };
-    assert_eq!(told(b""), "this is no Section 7: it has 0 octets, too few for one");
-    assert_eq!(told(&section(3, 49)), "this is no Section 7: its section number is 5");
-    assert_eq!(
-        told(&[0, 0, 0, 8, 7, 0xBC, 0x80]),
-        "this is no whole Section 7: it says that it has 8 octets, and it has 7"
-    );
+    assert_eq!(told(b""), "0 octets are too few for a Section 7");
+    assert_eq!(told(&section(3, 49)), "the section number is 5, and not 7");
+    assert_eq!(told(&[0, 0, 0, 8, 7, 0xBC, 0x80]), "Section 7 says that it has 8 octets, and 7 are there");
+    let behind = "octets stand behind Section 7: it says that it has 6, and 7 are there";
+    assert_eq!(told(&[0, 0, 0, 6, 7, 0xBC, 0x80]), behind);
 }

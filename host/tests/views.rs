@@ -4,8 +4,9 @@
 mod support;
 
 use cleatmow::{
-    numbers_as_octets, numbers_of_points, pack, pack_into, run_length, run_length_into, Differences, Filled, InOctets,
-    NoNumber, Point, Refusal, Template, GROUP_OCTETS, LEVEL_OCTETS, POINT_OCTETS, SUMMARY_OCTETS,
+    field, numbers_as_octets, numbers_of_points, pack, pack_into, read_section5, read_section5_into, run_length,
+    run_length_into, unpack, unpack_into, write_section5, write_section5_into, Differences, Filled, InOctets, NoNumber,
+    Point, Refusal, Template, FIELD_OCTETS, GROUP_OCTETS, LEVEL_OCTETS, POINT_OCTETS, SUMMARY_OCTETS,
 };
 use std::fmt::Debug;
 use support::model::{octets_of, payload, template, Input, Written};
@@ -69,6 +70,60 @@ fn points_end_where_the_map_does() {
             let past = kept[end..].to_vec();
             hold(input.view(&mut kept).unwrap(), &points);
             assert_eq!((&kept[..end], &kept[end..]), (&octets_of(&points)[..], &past[..]));
+        }
+    }
+}
+
+/// The fields of an input's Section 5, and its octets. What unpacking does not look at are numbers of their own.
+fn section5_of(input: &Input) -> (Vec<u32>, Vec<u8>) {
+    let Input { template, differences, declared, .. } = input;
+    let mut fields = vec![47, 5, *declared, 2, 0xBFC0_0000, 0x8003, 1, template.number_width.into(), 9];
+    fields.extend([template.splitting, template.missing].map(u32::from));
+    fields.extend([0x0102_0304, 0x0506_0708, template.groups]);
+    fields.extend([template.width_reference, template.width_bits].map(u32::from));
+    fields.extend([template.length_reference, template.length_increment.into(), template.last_length]);
+    fields.push(template.length_bits.into());
+    if let Some(Differences { order, descriptor_octets }) = *differences {
+        fields.extend([order, descriptor_octets].map(u32::from));
+        (fields[field::SECTION_LENGTH], fields[field::TEMPLATE]) = (49, 3);
+    }
+    let octets = write_section5(&fields).unwrap();
+    (fields, octets)
+}
+
+/// From Section 5 the points are the same, and end where those do that the template numbers give.
+#[test]
+fn points_from_section_5_end_where_the_map_does() {
+    let maps = [map(&[5, 7, 6, 0]), map(&[]), restored(7, 0x8000_0003, &[5, 0, 1, 7, 2]), map(&[6])];
+    for spare in 0..2 * POINT_OCTETS {
+        let mut kept = vec![UNTOUCHED; 5 * POINT_OCTETS + spare];
+        for input in maps.iter().chain(maps.iter().rev()) {
+            let ((_, section5), points) = (section5_of(input), input.points().unwrap());
+            let past = kept[points.len() * POINT_OCTETS..].to_vec();
+            hold(unpack_into(&section5, &input.payload, &mut kept).unwrap(), &points);
+            assert_eq!(kept[points.len() * POINT_OCTETS..], past);
+            assert_eq!(unpack(&section5, &input.payload), Ok(points));
+        }
+    }
+}
+
+/// A template has its own fields, whatever is left of the other's; and its own octets.
+#[test]
+fn fields_end_where_the_template_does() {
+    let maps = [map(&[5, 7, 6, 0]), restored(7, 0x8000_0003, &[5, 0, 1, 7, 2]), map(&[])];
+    for spare in 0..2 * FIELD_OCTETS {
+        let (mut kept, mut written) = (vec![UNTOUCHED; 22 * FIELD_OCTETS + spare], vec![UNTOUCHED; 49 + spare]);
+        for input in maps.iter().chain(maps.iter().rev()) {
+            let (fields, section5) = section5_of(input);
+            let end = fields.len() * FIELD_OCTETS;
+            let past = kept[end..].to_vec();
+            hold(read_section5_into(&section5, &mut kept).unwrap(), &fields);
+            assert_eq!((&kept[..end], &kept[end..]), (&numbers_as_octets(&fields)[..], &past[..]));
+            assert_eq!(read_section5(&section5), Ok(fields));
+
+            let past = written[section5.len()..].to_vec();
+            assert_eq!(write_section5_into(&kept[..end], &mut written), Ok(&section5[..]));
+            assert_eq!((&written[..section5.len()], &written[section5.len()..]), (&section5[..], &past[..]));
         }
     }
 }
@@ -233,6 +288,20 @@ fn refused_calls_give_no_view() {
     assert_eq!(run_length_into(4, 9, 10, &[0xC3, 0xB5], &mut kept), Err(Refusal::Repeat));
     assert_eq!(run_length_into(4, 9, 9, &[0x3C, 0xB5], &mut kept), Err(Refusal::Points));
     assert_eq!(run_length_into(4, 9, 10, &[0x3C, 0xB5], &mut kept[1..]), Err(Refusal::Room));
+
+    // From the first calls on, the fields and the octets of a good Section 5 stand there.
+    let (mut kept, mut written) = ([UNTOUCHED; 88], [UNTOUCHED; 49]);
+    let (fields, section5) = section5_of(&restored(7, 0, &[5]));
+    assert_eq!(read_section5_into(&section5, &mut kept).map(Filled::len), Ok(22));
+    assert_eq!(read_section5_into(&section5[..48], &mut kept), Err(Refusal::Section5));
+    assert_eq!(read_section5_into(&section5, &mut kept[1..]), Err(Refusal::Room));
+    assert_eq!(unpack_into(&section5[1..], &[0; 9], &mut kept), Err(Refusal::Section5));
+    assert_eq!(write_section5_into(&kept, &mut written).map(<[u8]>::len), Ok(49));
+    assert_eq!(write_section5_into(&kept[1..], &mut written), Err(Refusal::Section5));
+    assert_eq!(write_section5_into(&kept, &mut written[1..]), Err(Refusal::Room));
+    let wide = [&fields[..field::ORDER], &[256, 1]].concat();
+    assert_eq!(write_section5_into(&numbers_as_octets(&wide), &mut written), Err(Refusal::Numbers));
+    assert_eq!((write_section5(&wide), write_section5(&fields[..21])), (Err(Refusal::Numbers), Err(Refusal::Section5)));
 
     // From the first call on, the groups and the summary of a good list stand there.
     let (mut groups, mut payload, mut summary) = ([UNTOUCHED; 64], [UNTOUCHED; 8], [UNTOUCHED; SUMMARY_OCTETS]);

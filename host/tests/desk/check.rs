@@ -1,7 +1,7 @@
 //! `desk check`, and the same check before `desk unpack` and `desk point`.
 
 use crate::*;
-use cleatmow::{pack, Refusal};
+use cleatmow::pack;
 
 /// The two sections of a packing.
 fn packed(numbers: &[u32], lookahead: u32) -> [Vec<u8>; 2] {

@@ -15,57 +15,59 @@ fn files_that_are_no_map() {
         octets[place] = octet;
         octets
     };
-    let mut levels = changed(&good5, 10, 200);
-    levels[3] = 47;
-    for (section5, section7, sentence) in [
-        (vec![], good7.clone(), "map.s5: this is no Section 5: it has 0 octets, too few for one"),
-        (good5[..4].to_vec(), good7.clone(), "map.s5: this is no Section 5: it has 4 octets, too few for one"),
-        (
-            good5[..46].to_vec(),
-            good7.clone(),
-            "map.s5: this is no whole Section 5: it says that it has 47 octets, and it has 46",
-        ),
-        (good7.clone(), good5.clone(), "map.s5: this is no Section 5: its section number is 7"),
-        (changed(&good5, 4, 7), good7.clone(), "map.s5: this is no Section 5: its section number is 7"),
+    let refused = |found: &str| (NO_SECTION5, no_section5("map.s5", found));
+    let own = |sentence: &str| (HOST, sentence.to_string());
+    let with_behind = |octets: &[u8]| [octets, &[0]].concat();
+    for (section5, section7, (status, sentence)) in [
+        (vec![], good7.clone(), refused("0 octets are too few for a Section 5")),
+        (good5[..10].to_vec(), good7.clone(), refused("10 octets are too few for a Section 5")),
+        (good5[..46].to_vec(), good7.clone(), refused("Section 5 says that it has 47 octets, and 46 are there")),
+        (good7.clone(), good5.clone(), refused("the section number is 7, and not 5")),
+        (changed(&good5, 4, 7), good7.clone(), refused("the section number is 7, and not 5")),
         (
             changed(&good5, 0, 255),
             good7.clone(),
-            "map.s5: this is no whole Section 5: it says that it has 4278190127 octets, and it has 47",
+            refused("Section 5 says that it has 4278190127 octets, which is not the length of template 5.2"),
         ),
         (
             changed(&good5, 10, 0),
             good7.clone(),
-            "map.s5: this Section 5 is of template 5.0, whose numbers are not read here",
+            refused("Section 5 is of template 5.0, whose numbers are not read here"),
         ),
         (
             changed(&good5, 10, 3),
             good7.clone(),
-            "map.s5: this is no Section 5 of template 5.3: it has 47 octets, not that template's",
+            refused("Section 5 says that it has 47 octets, which is not the length of template 5.3"),
         ),
         (
-            levels,
+            changed(&good5, 10, 200),
             good7.clone(),
-            "map.s5 is of template 5.200: what its levels stand for is not read here, so the desk shows none",
+            refused(
+                "Section 5 is of template 5.200: what its levels stand for is not read here, so the desk shows none",
+            ),
         ),
-        (good5.clone(), vec![], "map.s7: this is no Section 7: it has 0 octets, too few for one"),
-        (good5.clone(), good7[..4].to_vec(), "map.s7: this is no Section 7: it has 4 octets, too few for one"),
+        // A refusal comes before what is wrong with Section 7.
+        (changed(&good5, 4, 7), vec![], refused("the section number is 7, and not 5")),
+        (
+            with_behind(&good5),
+            good7.clone(),
+            own("map.s5: octets stand behind Section 5: it says that it has 47, and 48 are there"),
+        ),
+        (good5.clone(), vec![], own("map.s7: 0 octets are too few for a Section 7")),
+        (good5.clone(), good7[..4].to_vec(), own("map.s7: 4 octets are too few for a Section 7")),
+        (good5.clone(), good7[..7].to_vec(), own("map.s7: Section 7 says that it has 8 octets, and 7 are there")),
         (
             good5.clone(),
-            good7[..7].to_vec(),
-            "map.s7: this is no whole Section 7: it says that it has 8 octets, and it has 7",
+            with_behind(&good7),
+            own("map.s7: octets stand behind Section 7: it says that it has 8, and 9 are there"),
         ),
-        (
-            good5.clone(),
-            [&good7[..], &[0]].concat(),
-            "map.s7: this is no whole Section 7: it says that it has 8 octets, and it has 9",
-        ),
-        (good5.clone(), changed(&good7, 4, 5), "map.s7: this is no Section 7: its section number is 5"),
+        (good5.clone(), changed(&good7, 4, 5), own("map.s7: the section number is 5, and not 7")),
         (
             good5.clone(),
             changed(&good7, 0, 1),
-            "map.s7: this is no whole Section 7: it says that it has 16777224 octets, and it has 8",
+            own("map.s7: Section 7 says that it has 16777224 octets, and 8 are there"),
         ),
-        (good5.clone(), good5.clone(), "map.s7: this is no Section 7: its section number is 5"),
+        (good5.clone(), good5.clone(), own("map.s7: the section number is 5, and not 7")),
     ] {
         write_map(&folder, "map", &section5, &section7);
         for line in [
@@ -76,7 +78,7 @@ fn files_that_are_no_map() {
             "pack map --columns 4 --rows 1 --to cut",
             "point map --columns 4 --rows 1 --column 1 --row 1",
         ] {
-            assert_eq!(told(&folder, &words(line), HOST), sentence, "{line}");
+            assert_eq!(told(&folder, &words(line), status), sentence, "{line}");
         }
     }
 

@@ -238,18 +238,18 @@ fn fields_of_other_templates() {
     for template in [0, 1, 40, 41, 42, 201] {
         let other = with_section5(0, |section5| put(section5, 10, &u16::to_be_bytes(template)));
         write(&folder, "map.grib2", &of(section3(0, 2, 2, 0), other));
-        let why = format!("this Section 5 is of template 5.{template}, whose numbers are not read here");
+        let why = format!("Section 5 is of template 5.{template}, whose numbers are not read here");
         let listed = results(&folder, &["list", "map.grib2"]).replace("\n        ", " ");
         assert!(listed.contains(&format!("template 5.{template}, 4 points")) && listed.contains(&why), "{listed}");
         for line in ["unpack map.grib2", "pack map.grib2 --to cut", "split map.grib2 --to cut"] {
-            assert_eq!(told(&folder, &words(line), HOST), format!("map.grib2: {why}"), "{line}");
+            assert_eq!(told(&folder, &words(line), NO_SECTION5), no_section5("map.grib2", &why), "{line}");
         }
     }
     let levels = section(5, &[0, 0, 0, 10, 0, 200, 4, 0, 9, 0, 0, 0]);
     let runs = vec![section4(), levels.clone(), section6(255), section7(&[0x3C, 0xB5])];
     write(&folder, "map.grib2", &of(section3(0, 5, 2, 0), runs));
-    let shown = "map.grib2 is of template 5.200: what its levels stand for is not read here, so the desk shows none";
-    assert_eq!(told(&folder, &["unpack", "map.grib2"], HOST), shown);
+    let why = "Section 5 is of template 5.200: what its levels stand for is not read here, so the desk shows none";
+    assert_eq!(told(&folder, &["unpack", "map.grib2"], NO_SECTION5), no_section5("map.grib2", why));
     assert!(results(&folder, &["list", "map.grib2"])
         .replace("\n        ", " ")
         .contains("; its levels are not shown\n"));

@@ -12,7 +12,7 @@ mod site;
 mod support;
 mod words;
 
-use cleatmow::{section7_of, Physical, Point, Section5, Template};
+use cleatmow::{section7_of, Physical, Point, Refusal, Section5, Template};
 use std::fs;
 use std::path::{Path, PathBuf};
 use std::process::{Command, Output, Stdio};
@@ -25,6 +25,9 @@ const HOST: i32 = 64;
 const NO_FORECAST: i32 = 65;
 const NO_NUMBER: i32 = 66;
 const OTHER_PACKING: i32 = 67;
+
+/// The refusal of a Section 5, by its number.
+const NO_SECTION5: i32 = 14;
 
 /// The lookahead where none is said.
 const LOOKAHEAD: u32 = 4;
@@ -120,6 +123,11 @@ fn told(folder: &Path, words: &[&str], status: i32) -> String {
     let sentence = sentence.unwrap_or_else(|| panic!("{words:?}: {ran:?}"));
     assert!(!sentence.is_empty() && !sentence.contains('\n'), "{words:?}: {ran:?}");
     sentence.into()
+}
+
+/// The sentence of refusal 14, with what was found.
+fn no_section5(name: &str, found: &str) -> String {
+    format!("{name}: {} ({found})", Refusal::Section5)
 }
 
 fn words(line: &str) -> Vec<&str> {
@@ -248,7 +256,7 @@ fn after<'a>(text: &'a str, word: &str) -> &'a str {
     line.unwrap_or_else(|| panic!("no {word}: {text}")).trim_start()[word.len()..].trim_start()
 }
 
-const PHYSICAL: Physical = Physical { scaling: [0x3F, 0x80, 0, 0, 0x80, 3, 0, 1], field_type: 1 };
+const PHYSICAL: Physical = Physical { reference: 0x3F80_0000, binary_scale: 0x8003, decimal_scale: 1, field_type: 1 };
 
 /// Document 01's case 5 6 5 7, lookahead 4.
 const CASE: Template = Template {

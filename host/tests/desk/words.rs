@@ -1,7 +1,6 @@
 //! The words of the command line, and the help.
 
 use crate::*;
-use cleatmow::Refusal;
 
 /// Command lines that ask for nothing.
 #[test]

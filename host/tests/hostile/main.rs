@@ -1,6 +1,6 @@
 //! Hostile input: damaged copies of good inputs through every C call, each on octets that hold a pattern and on such that
 //! hold its complement. After each call its number, every octet that it was lent or has read, and the guards about them
-//! are held to document 01 as it is written plainly in `support::model`.
+//! are held to documents 01 and 02 as they are written plainly in `support::model`.
 //!
 //! `make hostile` runs the two tests that are ignored otherwise: `a_million_of_each`, and, under valgrind,
 //! `in_blocks_of_their_own`. CLEATMOW_HOSTILE_INPUTS and CLEATMOW_HOSTILE_SEED set how many inputs a call has and their
@@ -9,6 +9,7 @@
 mod damage;
 mod packing;
 mod run_length;
+mod section5;
 #[path = "../support/mod.rs"]
 mod support;
 mod unpacking;
@@ -21,7 +22,7 @@ use std::hash::{DefaultHasher, Hash, Hasher};
 use std::panic::{catch_unwind, resume_unwind, AssertUnwindSafe};
 use support::maps::Numbers;
 
-/// An answer: its number and, where document 01 lists the number more than once for an operation, what it is for.
+/// An answer: its number and, where the documents list the number more than once for an operation, what it is for.
 type Class = (u32, &'static str);
 
 const ACCEPTED: Class = (0, "");
@@ -32,7 +33,7 @@ trait Operation {
 
     const NAME: &'static str;
 
-    /// Its refusals, in document 01's order.
+    /// Its refusals, in the documents' order.
     const REFUSALS: &'static [Class];
 
     /// A copy of one of the good inputs, damaged.
@@ -41,16 +42,16 @@ trait Operation {
 
 /// What a call is given.
 trait Input: Debug {
-    /// The octets that it reads.
-    fn read(&self) -> &[u8];
+    /// The octets that it reads, for each of its buffers.
+    fn read(&self) -> Vec<&[u8]>;
 
     /// How many octets it is lent, for each of its buffers.
     fn lent(&self) -> Vec<usize>;
 
     /// Makes the call, and answers its number.
-    fn call(&self, read: &mut Block, lent: &mut [Block]) -> u32;
+    fn call(&self, read: &mut [Block], lent: &mut [Block]) -> u32;
 
-    /// What document 01 says: the answer, and what is left in the lent octets.
+    /// What the documents say: the answer, and what is left in the lent octets.
     fn right(&self, lent: &mut [Block]) -> Class;
 }
 
@@ -95,10 +96,10 @@ fn pattern(octets: usize, flip: u8) -> impl Iterator<Item = u8> {
 }
 
 /// Makes a call twice, on a pattern and on its complement, so that no stray store goes unseen and an answer that depends
-/// on octets outside does not stay the same. Answers document 01's class, or what is not as it should be.
+/// on octets outside does not stay the same. Answers the documents' class, or what is not as it should be.
 fn held(input: &impl Input, guard: usize) -> Result<Class, String> {
     let [first, second] = [0, 0xFF].map(|flip| {
-        let mut read = Block::new(input.read(), guard, flip);
+        let mut read: Vec<Block> = input.read().into_iter().map(|octets| Block::new(octets, guard, flip)).collect();
         let mut lent: Vec<Block> = input.lent().into_iter().map(|octets| Block::lent(octets, guard, flip)).collect();
         let (read_before, mut right) = (read.clone(), lent.clone());
         let class = input.right(&mut right);
@@ -108,8 +109,10 @@ fn held(input: &impl Input, guard: usize) -> Result<Class, String> {
             Ok(number) if number != class.0 => return Err(format!("the answer is {number} for {}", class.0)),
             Ok(_) => {}
         }
-        if let Some(place) = read.first_other(&read_before) {
-            return Err(format!("octet {place} of what is read is changed"));
+        for (buffer, (read, before)) in read.iter().zip(&read_before).enumerate() {
+            if let Some(place) = read.first_other(before) {
+                return Err(format!("octet {place} of read buffer {buffer} is changed"));
+            }
         }
         for (buffer, (lent, right)) in lent.iter().zip(&right).enumerate() {
             if let Some(place) = lent.first_other(right) {
@@ -166,7 +169,7 @@ fn digest(input: &impl Debug) -> u64 {
     hasher.finish()
 }
 
-/// All four, and their table. It fails where an answer was never reached.
+/// All operations, and their table. It fails where an answer was never reached.
 fn run_all(inputs: u64, around: Around) {
     let inputs = set("CLEATMOW_HOSTILE_INPUTS").unwrap_or(inputs);
     let seed = set("CLEATMOW_HOSTILE_SEED").unwrap_or(1);
@@ -175,12 +178,15 @@ fn run_all(inputs: u64, around: Around) {
         run(&unpacking::Spatial::new(), inputs, seed, around),
         run(&run_length::RunLength::new(), inputs, seed, around),
         run(&packing::Pack::new(), inputs, seed, around),
+        run(&section5::Read::new(), inputs, seed, around),
+        run(&section5::Write::new(), inputs, seed, around),
+        run(&section5::Unpack::new(), inputs, seed, around),
     ];
     let how = match around {
         Around::Guards => "guard octets about every buffer",
         Around::Nothing => "every buffer a block of the heap by itself",
     };
-    println!("Damaged copies of good inputs, seed {seed}, {how}: all as document 01 has it.\n");
+    println!("Damaged copies of good inputs, seed {seed}, {how}: all as documents 01 and 02 have it.\n");
     print!("{}", table(inputs, &tallies));
     for Tally { name, classes } in &tallies {
         for ((number, what), count) in classes {
@@ -244,21 +250,21 @@ fn in_blocks_of_their_own() {
     run_all(20_000, Around::Nothing);
 }
 
-/// A call that copies what it reads to the front of what it is lent, rightly or with a fault.
+/// A call that copies what it reads last to the front of what it is lent last, rightly or with a fault.
 #[derive(Debug)]
-struct Copying(fn(&mut Block, &mut [Block]) -> u32);
+struct Copying(fn(&mut [Block], &mut [Block]) -> u32);
 
 impl Input for Copying {
-    fn read(&self) -> &[u8] {
-        &[5, 6, 7]
+    fn read(&self) -> Vec<&[u8]> {
+        vec![&[], &[5, 6, 7]]
     }
 
     fn lent(&self) -> Vec<usize> {
         vec![0, 5]
     }
 
-    fn call(&self, read: &mut Block, lent: &mut [Block]) -> u32 {
-        lent[1].octets()[..3].copy_from_slice(read.octets());
+    fn call(&self, read: &mut [Block], lent: &mut [Block]) -> u32 {
+        lent[1].octets()[..3].copy_from_slice(read[1].octets());
         self.0(read, lent)
     }
 
@@ -273,12 +279,12 @@ impl Input for Copying {
 fn faults_are_told() {
     assert_eq!(held(&Copying(|_, _| 0), 16), Ok(ACCEPTED));
     assert_eq!(held(&Copying(|_, _| 0), 0), Ok(ACCEPTED));
-    type Fault = fn(&mut Block, &mut [Block]) -> u32;
+    type Fault = fn(&mut [Block], &mut [Block]) -> u32;
     fn stray(block: &mut Block, place: usize) -> u32 {
         block.all[place] ^= 1;
         0
     }
-    let faults: [(Fault, &str); 11] = [
+    let faults: [(Fault, &str); 12] = [
         (|_, _| 9, "the answer is 9 for 0"),
         // As the host does with a number that is not in the table.
         (|_, _| resume_unwind(Box::new("no such number")), "the call panics"),
@@ -287,11 +293,12 @@ fn faults_are_told() {
         (|_, lent| stray(&mut lent[1], 15), "octet -1 of lent buffer 1 is another"),
         (|_, lent| stray(&mut lent[1], 21), "octet 5 of lent buffer 1 is another"),
         (|_, lent| stray(&mut lent[0], 31), "octet 15 of lent buffer 0 is another"),
-        (|read, _| stray(read, 17), "octet 1 of what is read is changed"),
-        (|read, _| stray(read, 15), "octet -1 of what is read is changed"),
-        (|read, _| stray(read, 19), "octet 3 of what is read is changed"),
+        (|read, _| stray(&mut read[1], 17), "octet 1 of read buffer 1 is changed"),
+        (|read, _| stray(&mut read[1], 15), "octet -1 of read buffer 1 is changed"),
+        (|read, _| stray(&mut read[1], 19), "octet 3 of read buffer 1 is changed"),
+        (|read, _| stray(&mut read[0], 16), "octet 0 of read buffer 0 is changed"),
         // A store that does not show over the pattern shows over its complement, and so does what an octet outside decides.
-        (|read, _| u32::from(read.all[15] >= 128), "the answer is 1 for 0"),
+        (|read, _| u32::from(read[1].all[15] >= 128), "the answer is 1 for 0"),
     ];
     for (fault, told) in faults {
         assert_eq!(held(&Copying(fault), 16), Err(told.to_string()));

@@ -107,18 +107,18 @@ impl List {
 }
 
 impl Input for List {
-    fn read(&self) -> &[u8] {
-        &self.octets
+    fn read(&self) -> Vec<&[u8]> {
+        vec![&self.octets]
     }
 
     fn lent(&self) -> Vec<usize> {
         self.lent.to_vec()
     }
 
-    fn call(&self, read: &mut Block, lent: &mut [Block]) -> u32 {
+    fn call(&self, read: &mut [Block], lent: &mut [Block]) -> u32 {
         let [groups, payload, summary] = lent else { panic!("three buffers are lent") };
         let lent = [groups.octets(), payload.octets(), summary.octets()];
-        call(self.lookahead, read.octets(), lent, self.right.as_ref())
+        call(self.lookahead, read[0].octets(), lent, self.right.as_ref())
     }
 
     fn right(&self, lent: &mut [Block]) -> Class {

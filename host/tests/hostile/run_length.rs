@@ -78,17 +78,17 @@ impl Map {
 }
 
 impl Input for Reading {
-    fn read(&self) -> &[u8] {
-        &self.map.payload
+    fn read(&self) -> Vec<&[u8]> {
+        vec![&self.map.payload]
     }
 
     fn lent(&self) -> Vec<usize> {
         vec![self.room]
     }
 
-    fn call(&self, read: &mut Block, lent: &mut [Block]) -> u32 {
+    fn call(&self, read: &mut [Block], lent: &mut [Block]) -> u32 {
         let Map { bits, max_level, declared, .. } = self.map;
-        call((bits, max_level, declared, read.octets()), lent[0].octets())
+        call((bits, max_level, declared, read[0].octets()), lent[0].octets())
     }
 
     fn right(&self, lent: &mut [Block]) -> Class {

@@ -44,26 +44,30 @@ impl Operation for Spatial {
 
     const NAME: &'static str = "unpacking, 5.3";
 
-    const REFUSALS: &'static [Class] = &[
-        (3, ""),
-        (1, ""),
-        (2, ""),
-        (4, ""),
-        (7, DESCRIPTORS),
-        (6, ""),
-        (5, ""),
-        (7, GROUP_FIELDS),
-        (8, ""),
-        (7, VALUES),
-        (9, ""),
-        (10, ""),
-        (12, ""),
-    ];
+    const REFUSALS: &'static [Class] = BY_SECTION5.split_at(1).1;
 
     fn damaged(&self, chance: &mut Chance) -> Unpacking {
         self.0.damaged(chance)
     }
 }
+
+/// Those of 5.3, after the one for a Section 5 that is none. Those of 5.2 are among them.
+pub const BY_SECTION5: &[Class] = &[
+    (14, ""),
+    (3, ""),
+    (1, ""),
+    (2, ""),
+    (4, ""),
+    (7, DESCRIPTORS),
+    (6, ""),
+    (5, ""),
+    (7, GROUP_FIELDS),
+    (8, ""),
+    (7, VALUES),
+    (9, ""),
+    (10, ""),
+    (12, ""),
+];
 
 const DESCRIPTORS: &str = "descriptors";
 const GROUP_FIELDS: &str = "group fields";
@@ -79,9 +83,9 @@ struct Maps {
 
 #[derive(Debug, PartialEq)]
 pub struct Unpacking {
-    map: Map,
+    pub map: Map,
     /// The octets that are lent for the points.
-    room: usize,
+    pub room: usize,
 }
 
 impl Maps {
@@ -142,16 +146,16 @@ fn damage(chance: &mut Chance, map: &mut Map) {
 }
 
 impl Input for Unpacking {
-    fn read(&self) -> &[u8] {
-        &self.map.payload
+    fn read(&self) -> Vec<&[u8]> {
+        vec![&self.map.payload]
     }
 
     fn lent(&self) -> Vec<usize> {
         vec![self.room]
     }
 
-    fn call(&self, read: &mut Block, lent: &mut [Block]) -> u32 {
-        self.map.call_on(read.octets(), lent[0].octets())
+    fn call(&self, read: &mut [Block], lent: &mut [Block]) -> u32 {
+        self.map.call_on(read[0].octets(), lent[0].octets())
     }
 
     fn right(&self, lent: &mut [Block]) -> Class {
@@ -179,7 +183,7 @@ impl Unpacking {
 }
 
 /// Document 01's cases, parts of the real maps, small maps by other writers, and made ones.
-fn short_maps(spatial: bool) -> Vec<Map> {
+pub fn short_maps(spatial: bool) -> Vec<Map> {
     let mut chance = Chance(Numbers::new(if spatial { 53 } else { 52 }));
     let mut maps = cases();
     for real in real_maps().iter().filter(|map| map.differences.is_some() == spatial) {

@@ -78,7 +78,8 @@ pub fn map(number: u8) -> [Vec<u8>; 2] {
         last_length: if spatial { 4 } else { 1 },
         length_bits: 0,
     };
-    let physical = Physical { scaling: [number, 0, 0, 0, 0, 0, 0, 0], field_type: 0 };
+    let reference = u32::from_be_bytes([number, 0, 0, 0]);
+    let physical = Physical { reference, binary_scale: 0, decimal_scale: 0, field_type: 0 };
     let mut section5 = Section5::of_packing(4, &template, &physical);
     if spatial {
         section5.extend([1, 1]);

@@ -6,6 +6,7 @@
 
 pub mod packing;
 pub mod run_length;
+pub mod section5;
 
 use super::guarded;
 use super::maps::Numbers;

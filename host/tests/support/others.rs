@@ -15,6 +15,7 @@ pub struct Map {
     pub template: u16,
     /// What document 01 does with it, where that is a refusal. Otherwise it gives the points.
     pub refusal: Option<Refusal>,
+    pub section5_octets: Vec<u8>,
     pub section5: Section5,
     pub payload: Vec<u8>,
     digest: Vec<u8>,
@@ -33,14 +34,19 @@ impl Map {
     pub fn from_line(line: &str) -> Option<Map> {
         let mut words = line.split(' ');
         let mut value = |key: &str| words.next()?.strip_prefix(key)?.strip_prefix('=');
+        let id = value("id")?.to_string();
+        let template = value("t")?.parse().ok()?;
+        let refusal = match value("doc")? {
+            "same" => None,
+            refused => Some(Refusal::from_number(refused.strip_prefix("refused-")?.parse().ok()?)?),
+        };
+        let section5_octets = octets(value("s5")?)?;
         let map = Map {
-            id: value("id")?.to_string(),
-            template: value("t")?.parse().ok()?,
-            refusal: match value("doc")? {
-                "same" => None,
-                refused => Some(Refusal::from_number(refused.strip_prefix("refused-")?.parse().ok()?)?),
-            },
-            section5: Section5::from_octets(&octets(value("s5")?)?).ok()?,
+            id,
+            template,
+            refusal,
+            section5: Section5::from_octets(&section5_octets).ok()?,
+            section5_octets,
             payload: match value("pay")? {
                 "-" => Vec::new(),
                 hex => octets(hex)?,

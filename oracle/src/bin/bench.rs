@@ -3,11 +3,12 @@
 //!
 //! `bench [OPERATION] [--points N]` times one operation or all, on maps of N points, 1,000,000 without the option. Those
 //! that begin with `real_` unpack the real maps of samples/, which have the points that they have. Those that begin
-//! with `pack_` pack numbers: a number after it is the lookahead, on the numbers of a made map; `real_` and a name is a
-//! real map, and the lookahead comes last; any other word names a list that is hard to group, at the greatest lookahead
-//! or, for `comb`, at the one that is hardest for it.
-//! With `--only-ours`, `--only-rust` or `--only-limit` it makes one call and times nothing, for a tool that counts
-//! instructions.
+//! with `section5_` unpack by the octets of Section 5, beside the call with typed numbers. Those that begin with
+//! `pack_` pack numbers: a number after it is the lookahead, on the numbers of a made map; `real_` and a name is a real
+//! map, and the lookahead comes last; any other word names a list that is hard to group, at the greatest lookahead or,
+//! for `comb`, at the one that is hardest for it.
+//! With `--only-ours`, `--only-rust`, `--only-typed` or `--only-limit` it makes one call and times nothing, for a tool
+//! that counts instructions.
 //!
 //! An operation is a type that is an `Operation`, and a line in `OPERATIONS`.
 
@@ -33,7 +34,8 @@ mod bench {
     use cleatmow::{
         GREATEST_LOOKAHEAD, GROUP_OCTETS, Group, LEVEL_OCTETS, MOST_POINTS, NUMBER_OCTETS, POINT_OCTETS, Packing,
         Point, Points, SUMMARY_OCTETS, Section5, Template, TemplateNumbers, numbers_as_octets, pack, pack_into,
-        run_length, run_length_into, unpack_complex, unpack_complex_into, unpack_spatial, unpack_spatial_into,
+        run_length, run_length_into, unpack, unpack_complex, unpack_complex_into, unpack_into, unpack_spatial,
+        unpack_spatial_into, write_section5,
     };
     use oracle::maps::{self, ComplexMap, RunLengthMap, gust_differences, gust_numbers, gusts, rain};
     use oracle::{Outcome, Packed, Section7, rust_pack, rust_run_length, rust_unpack_complex, rust_unpack_spatial};
@@ -50,7 +52,7 @@ mod bench {
 
     /// Every operation, by a name of this program's own. `bench.sh` says which C call, which function of the oracle and
     /// which limit are behind it.
-    const OPERATIONS: [(&str, Run); 26] = [
+    const OPERATIONS: [(&str, Run); 28] = [
         ("run_length", |name, options| {
             bench(name, RunLength::new(options.points), options);
             if options.calls == Calls::Timed {
@@ -60,6 +62,10 @@ mod bench {
         ("unpack_complex", |name, options| bench(name, Unpacking::new(gusts(options.points)), options)),
         ("unpack_spatial_1", |name, options| bench(name, Unpacking::new(gust_differences(1, options.points)), options)),
         ("unpack_spatial_2", |name, options| bench(name, Unpacking::new(gust_differences(2, options.points)), options)),
+        ("section5_complex", |name, options| bench(name, BySection5::new(gusts(options.points)), options)),
+        ("section5_spatial", |name, options| {
+            bench(name, BySection5::new(gust_differences(1, options.points)), options)
+        }),
         ("real_gust", |name, options| bench(name, Unpacking::new(real!("gfs-gust-144x73")), options)),
         ("real_conus", |name, options| bench(name, Unpacking::new(real!("ndfd-conus-1073x689")), options)),
         ("real_puerto_rico", |name, options| bench(name, Unpacking::new(real!("ndfd-puerto-rico-339x224")), options)),
@@ -195,6 +201,8 @@ mod bench {
         Rust(u32),
         /// Ours at lookahead 8 on the made map, on lent buffers.
         AtEight(u32),
+        /// Ours with typed numbers, on the same points and lent buffers.
+        Typed(u32),
     }
 
     struct RunLength {
@@ -362,6 +370,70 @@ mod bench {
 
         fn size(&self) -> (u32, usize) {
             (self.map.declared, self.map.payload.len())
+        }
+    }
+
+    /// Unpacking by the octets of Section 5, beside the call with typed numbers.
+    struct BySection5 {
+        section_5: Vec<u8>,
+        typed: Unpacking,
+    }
+
+    impl BySection5 {
+        fn new(map: ComplexMap) -> Self {
+            let template = &map.template;
+            let (length, number) = if map.differences.is_some() { (49, 3) } else { (47, 2) };
+            // Reference value, scales and field type are 0.
+            let mut fields = vec![length, 5, map.declared, number, 0, 0, 0];
+            fields.extend([template.number_width, 0, template.splitting, template.missing].map(u32::from));
+            fields.extend([Packing::MISSING_VALUE, Packing::MISSING_VALUE, template.groups]);
+            fields.extend([template.width_reference, template.width_bits].map(u32::from));
+            fields.extend([template.length_reference, template.length_increment.into()]);
+            fields.extend([template.last_length, template.length_bits.into()]);
+            if let Some(differences) = &map.differences {
+                fields.extend([differences.order, differences.descriptor_octets].map(u32::from));
+            }
+            let section_5 = write_section5(&fields).expect("a good Section 5");
+            Self { section_5, typed: Unpacking::new(map) }
+        }
+    }
+
+    impl Operation for BySection5 {
+        type Answer = Vec<Point>;
+        type Other = ();
+
+        fn ours_lent(&mut self) {
+            let Unpacking { map, points, .. } = &mut self.typed;
+            unpack_into(black_box(&self.section_5), black_box(&map.payload), points).expect("a good map");
+            black_box(points);
+        }
+
+        fn ours_new(&self) -> Vec<Point> {
+            unpack(black_box(&self.section_5), black_box(&self.typed.map.payload)).expect("a good map")
+        }
+
+        fn other(&mut self) {
+            self.typed.ours_lent();
+        }
+
+        fn left(&self) -> Vec<Point> {
+            self.typed.left()
+        }
+
+        fn is_right(&self, points: &Vec<Point>) -> bool {
+            self.typed.is_right(points)
+        }
+
+        fn other_is_right(&self, (): &()) -> bool {
+            self.typed.is_right(&self.typed.left())
+        }
+
+        fn size(&self) -> (u32, usize) {
+            self.typed.size()
+        }
+
+        fn beside(&self) -> Beside {
+            Beside::Typed(self.typed.map.declared)
         }
     }
 
@@ -552,12 +624,13 @@ mod bench {
         Timed,
         OnlyOurs,
         OnlyRust,
+        OnlyTyped,
         OnlyLimit,
     }
 
     pub fn usage() -> String {
         let names = OPERATIONS.map(|(name, _)| name).join(" | ");
-        let only = "--only-ours | --only-rust | --only-limit";
+        let only = "--only-ours | --only-rust | --only-typed | --only-limit";
         format!("usage: bench [{names}] [--points N] [{only}], N from 1 to {MOST_POINTS}")
     }
 
@@ -569,6 +642,7 @@ mod bench {
                     "--points" => options.points = words.next()?.parse().ok()?,
                     "--only-ours" if options.calls == Calls::Timed => options.calls = Calls::OnlyOurs,
                     "--only-rust" if options.calls == Calls::Timed => options.calls = Calls::OnlyRust,
+                    "--only-typed" if options.calls == Calls::Timed => options.calls = Calls::OnlyTyped,
                     "--only-limit" if options.calls == Calls::Timed => options.calls = Calls::OnlyLimit,
                     name if OPERATIONS.iter().any(|(known, _)| *known == name) => options.operation = Some(word),
                     _ => return None,
@@ -592,7 +666,7 @@ mod bench {
             operation.ours_lent();
             assert!(operation.is_right(&operation.left()), "{name}: ours is wrong");
         }
-        if matches!(calls, Calls::Timed | Calls::OnlyRust) {
+        if matches!(calls, Calls::Timed | Calls::OnlyRust | Calls::OnlyTyped) {
             let other = operation.other();
             assert!(operation.other_is_right(&other), "{name}: what ours is timed beside is wrong");
         }
@@ -602,8 +676,9 @@ mod bench {
         }
         if *calls != Calls::Timed {
             let points = match (calls, operation.beside()) {
-                (Calls::OnlyRust, Beside::Rust(points)) => points,
-                (Calls::OnlyRust, Beside::AtEight(_)) => panic!("{name}: the Rust is left out"),
+                (Calls::OnlyRust, Beside::Rust(points)) | (Calls::OnlyTyped, Beside::Typed(points)) => points,
+                (Calls::OnlyRust, _) => panic!("{name}: the Rust is left out"),
+                (Calls::OnlyTyped, _) => panic!("{name}: not by Section 5"),
                 (Calls::OnlyLimit, _) if O::LIMIT.is_none() => panic!("{name}: no limit"),
                 _ => operation.size().0,
             };
@@ -665,6 +740,10 @@ mod bench {
                 println!("  the Rust is left out: at the greatest lookahead it would take too long");
                 let ratio = ratio(lent, eight);
                 println!("  ours / ours on the map at lookahead 8, lent buffers, by the medians: {ratio}");
+            }
+            Beside::Typed(on) => {
+                let typed = other.report("ours, typed", on);
+                println!("  by Section 5 / by typed numbers, lent buffers, by the medians: {}", ratio(lent, typed));
             }
         }
         if let Some(does) = O::LIMIT {

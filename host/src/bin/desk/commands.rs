@@ -3,13 +3,13 @@
 use crate::arguments::{Form, Pack, Point, Unpack};
 use crate::files;
 use crate::grid::{Grid, Laid, Typed};
-use crate::map::Map;
+use crate::map::{section5, Map};
 use crate::packing::{check, Packed};
 use crate::progress::step;
 use crate::shown::{self, Number, NO_FORECAST};
 use crate::source::Sections;
-use crate::trouble::{Trouble, Why};
-use cleatmow::{Points, Section5};
+use crate::trouble::Trouble;
+use cleatmow::Points;
 use std::io::{self, Write};
 use std::path::{Path, PathBuf};
 use std::sync::atomic::{AtomicUsize, Ordering};
@@ -133,8 +133,7 @@ pub fn split(map: &Path, to: &Path, out: &mut impl Write) -> Result<(), Trouble>
     let Some(grid) = grid else {
         return Trouble::host(format!("{name} is two sections already"));
     };
-    let section5 =
-        Section5::from_octets(&octets[0]).map_err(|why| Trouble::Own(Why::Host, format!("{}: {why}", names[0])))?;
+    let section5 = section5(&names[0], &octets[0])?;
     let files = write(to, &octets)?;
     let mut print = || -> Result<(), Trouble> {
         let points = shown::many(section5.declared, "point");

@@ -217,9 +217,6 @@ pub fn text(topic: Option<Topic>) -> String {
     lines.push(status(0, "no error"));
     lines.extend(Refusal::ALL.iter().map(|refusal| status(refusal.number(), refusal.sentence())));
     lines.extend(Why::ALL.iter().map(|why| status(*why as u32, why.sentence())));
-    lines.push(shown::after(
-        "",
-        "1 to 13 are the refusals of unpacking and packing; 10 and 11 do not come from the desk.",
-    ));
+    lines.push(shown::after("", "1 to 14 are the refusals of the calls; 10 and 11 do not come from the desk."));
     lines.join("\n") + "\n"
 }

@@ -8,8 +8,8 @@ use crate::source::Sections;
 use crate::trouble::{Trouble, Why};
 use cleatmow::grib2::{self, NoGrid};
 use cleatmow::{
-    lent_points, payload_of, unpack_complex_into, unpack_spatial_into, Differences, NotSection, Physical, Points,
-    Refusal, Section5, Template, TemplateNumbers,
+    lent_points, payload_of, read_section5, unpack_into, Differences, Physical, Points, Refusal, Section5, Template,
+    TemplateNumbers,
 };
 use std::path::Path;
 
@@ -27,6 +27,20 @@ pub struct Map {
     grid: Option<Result<grib2::Grid, NoGrid>>,
 }
 
+/// Reads a whole Section 5, and nothing else.
+pub fn section5(name: &str, octets: &[u8]) -> Result<Section5, Trouble> {
+    Section5::from_octets(octets).map_err(|why| not_section5(name, octets, why.to_string()))
+}
+
+/// What the call for Section 5 refuses has its refusal's status. It reads a section that octets stand behind: that they
+/// are no file of a map is the desk's own.
+fn not_section5(name: &str, octets: &[u8], why: String) -> Trouble {
+    match read_section5(octets) {
+        Err(refusal) => Trouble::Refused { what: name.into(), refusal, found: why },
+        Ok(_) => Trouble::Own(Why::Host, format!("{name}: {why}")),
+    }
+}
+
 impl Map {
     /// The map that a command is asked for.
     pub fn named(name: &Path) -> Result<Map, Trouble> {
@@ -34,27 +48,16 @@ impl Map {
     }
 
     pub fn of(Sections { name, place, names, octets, grid }: Sections) -> Result<Map, Trouble> {
-        let other = |name: &str, why: NotSection| Trouble::Own(Why::Host, format!("{name}: {why}"));
-        let read = Section5::from_octets(&octets[0]).map_err(|why| other(&names[0], why))?;
-        payload_of(&octets[1]).map_err(|why| other(&names[1], why))?;
-        match read.numbers {
-            TemplateNumbers::Groups { template, differences, physical } => Ok(Map {
-                name,
-                place,
-                sections: octets,
-                declared: read.declared,
-                template,
-                differences,
-                physical,
-                grid,
-            }),
+        let read = section5(&names[0], &octets[0])?;
+        let TemplateNumbers::Groups { template, differences, physical } = read.numbers else {
             // A level may stand for a missing point, so it must not be shown as a number.
-            _ => Trouble::host(format!(
-                "{} is of template 5.{}: what its levels stand for is not read here, so the desk shows none",
-                names[0],
-                read.template_number()
-            )),
-        }
+            let levels = "what its levels stand for is not read here, so the desk shows none";
+            let why = format!("Section 5 is of template 5.{}: {levels}", read.template_number());
+            return Err(not_section5(&names[0], &octets[0], why));
+        };
+        payload_of(&octets[1]).map_err(|why| Trouble::Own(Why::Host, format!("{}: {why}", names[1])))?;
+        let declared = read.declared;
+        Ok(Map { name, place, sections: octets, declared, template, differences, physical, grid })
     }
 
     /// Whether both sections stand in one message.
@@ -104,11 +107,11 @@ impl Map {
     pub fn points<'a>(&self, lent: &'a mut Vec<u8>) -> Result<Points<'a>, Trouble> {
         *lent = lent_points(self.declared);
         let doing = || format!("unpacking {} points of {}", shown::count(self.declared), self.name);
-        step(doing, || match &self.differences {
-            None => unpack_complex_into(&self.template, self.declared, self.payload(), lent),
-            Some(differences) => unpack_spatial_into(&self.template, differences, self.declared, self.payload(), lent),
+        step(doing, || unpack_into(&self.sections[0], self.payload(), lent)).map_err(|refusal| Trouble::Refused {
+            what: self.name.clone(),
+            refusal,
+            found: self.found(refusal),
         })
-        .map_err(|refusal| Trouble::Refused { what: self.name.clone(), refusal, found: self.found(refusal) })
     }
 
     /// Its points in their grid.
@@ -136,18 +139,18 @@ impl Map {
 
     /// How Section 5 says that numbers become physical values. The desk leaves them as they were packed.
     pub fn scale(&self) -> String {
-        let [reference @ .., binary_0, binary_1, decimal_0, decimal_1] = self.physical.scaling;
+        let Physical { reference, binary_scale, decimal_scale, .. } = self.physical;
         // A sign bit and a magnitude.
-        let signed = |octets: [u8; 2]| {
-            let number = i32::from(u16::from_be_bytes(octets));
+        let signed = |bits: u16| {
+            let number = i32::from(bits);
             if number < 0x8000 {
                 number
             } else {
                 0x8000 - number
             }
         };
-        let (binary, decimal) = (signed([binary_0, binary_1]), signed([decimal_0, decimal_1]));
-        format!("not applied: ({} + number x 2^{binary}) / 10^{decimal}", f32::from_be_bytes(reference))
+        let (binary, decimal) = (signed(binary_scale), signed(decimal_scale));
+        format!("not applied: ({} + number x 2^{binary}) / 10^{decimal}", f32::from_bits(reference))
     }
 
     /// What unpacking found in this map when it refused it, where that can be said.
