@@ -126,7 +126,8 @@ impl Refusal {
             }
             Refusal::Section5 => {
                 "this is no whole Section 5 of template 5.2 or 5.3: it has too few octets or fields, \
-                 or another length, section number or template"
+                 or another length, section number or template: \
+                 it was cut off or damaged, or is of a map that is not read here"
             }
         }
     }

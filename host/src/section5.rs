@@ -111,7 +111,7 @@ impl Section5 {
                 whole(5, length, octets)?;
                 Ok(Section5 { declared, numbers: rest.run_length().ok_or(size)? })
             }
-            // Nothing else is left that the call refuses.
+            // Of these the call refuses only one that was cut off.
             (2, SECTION5_COMPLEX_OCTETS) | (3, SECTION5_SPATIAL_OCTETS) => {
                 Err(NotSection::Length { section: 5, length, count: octets.len() })
             }
