@@ -2,7 +2,7 @@
 use mathlib.Core.Path.{_≡_, sym, ap, _∙_}
 use mathlib.Core.List.{List}
 use Prim.Native.Nat.{ℕ}
-use Rattle.format.specs.Refusals.{Left, left, refusalNumber, unpackedNumber, unrolledNumber}
+use Rattle.format.specs.Refusals.{Left, left, refusalNumber, unpackedNumber}
 use Rattle.format.specs.declared.Refusal.{Refusal}
 use Rattle.format.specs.Unpacking.{unpack52}
 use Rattle.format.specs.Differences.{unpack53}
@@ -13,20 +13,19 @@ use Rattle.format.specs.declared.Packed.the-variants as packed
 use Rattle.format.specs.declared.Template.{Template}
 use Rattle.format.specs.declared.Differencing.{Differencing}
 use Rattle.format.specs.declared.Unpacked.{Unpacked}
-use Rattle.format.specs.declared.Unrolled.{Unrolled}
-use Rattle.format.specs.declared.Unrolled.the-variants as unrolled
 use Rattle.cleatmow.specs.Calls.{called, calledPack}
 
-called-is : {Answer : Type 0} (number : Answer → ℕ) (outcome : Left Answer) {answer : Answer} {buffer : List ℕ} {n : ℕ}
+pub called-is : {Answer : Type 0} (number : Answer → ℕ) (outcome : Left Answer) {answer : Answer} {buffer : List ℕ} {n : ℕ}
     → left answer buffer ≡ outcome → n ≡ number answer → left n buffer ≡ called number outcome
 called-is number outcome e en = rw (← e, en)
 
-module _ (outcome : Left Unrolled) {answer : Unrolled} {buffer : List ℕ} (e : left answer buffer ≡ outcome) where
-  pub unrolled-done : {count : ℕ} → answer ≡ unrolled.Levels count → left 0 buffer ≡ called unrolledNumber outcome
-  unrolled-done d = called-is unrolledNumber outcome e (ap unrolledNumber (sym d))
+-- by the cases of an answer: done, or refused
+module _ {Answer : Type 0} (number : Answer → ℕ) (outcome : Left Answer) {answer : Answer} {buffer : List ℕ} (e : left answer buffer ≡ outcome) where
+  pub call-done : {done : Answer} → answer ≡ done → number done ≡ 0 → left 0 buffer ≡ called number outcome
+  call-done d z = called-is number outcome e (sym (ap number d ∙ z))
 
-  pub unrolled-refused : {r : Refusal} {n : ℕ} → answer ≡ unrolled.Refused r → n ≡ refusalNumber r → left n buffer ≡ called unrolledNumber outcome
-  unrolled-refused d en = called-is unrolledNumber outcome e (en ∙ ap unrolledNumber (sym d))
+  pub call-refused : (r : Refusal) {refused : Answer} {n : ℕ} → answer ≡ refused → number refused ≡ refusalNumber r → n ≡ refusalNumber r → left n buffer ≡ called number outcome
+  call-refused r d z en = called-is number outcome e (en ∙ sym (ap number d ∙ z))
 
 module _ (declared : ℕ) (payload lent : List ℕ) (asked : Template) {t : Template} (et : t ≡ asked) {answer : Unpacked} {buffer : List ℕ} {n : ℕ} (en : n ≡ unpackedNumber answer) where
   pub complex-called : left answer buffer ≡ unpack52 t declared payload lent → left n buffer ≡ called unpackedNumber (unpack52 asked declared payload lent)

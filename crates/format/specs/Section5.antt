@@ -47,7 +47,8 @@ table =
     -- in 5.3 also order (48) and descriptor octets (49)."
     ∷ row 48 1 ∷ row 49 1 ∷ []
 
--- "templates 5.2 (47 octets) and 5.3 (49)": the octets that a template has, and its rows, of which 5.3 "also" has the last two
+-- "templates 5.2 (47 octets) and 5.3 (49)": the octets that a template has, and its rows, of which 5.3 "also" has the last two.
+-- A number that is neither has those of 5.2, and is refused
 unfoldable pub sectionSize : ℕ → ℕ
 sectionSize template = cond (eqb template 3) 49 47
 
@@ -84,7 +85,7 @@ field row number = record { row = row; number = number }
 abbrev pub numbersOf : List Field → List ℕ
 numbersOf fields = map (λ f. f .number) fields
 
--- the field in a row's octets
+-- the field in a row's octets. "Reference, scales and field type are carried through as bits.": like all others
 abbrev pub fieldIn : List ℕ → Row → Field
 fieldIn octets row = field row (numberAt octets ((row .first - 1) * 8) (row .size * 8))
 
@@ -92,11 +93,11 @@ fieldIn octets row = field row (numberAt octets ((row .first - 1) * 8) (row .siz
 abbrev pub fieldsIn : List Row → List ℕ → List Field
 fieldsIn rows octets = map (fieldIn octets) rows
 
--- the fields of numbers, one a row
+-- the fields of numbers, one a row; 0 where numbers are lacking
 abbrev pub fieldsOf : List Row → List ℕ → List Field
 fieldsOf rows numbers = listed (length rows) (λ k. field (getD rows k (row 0 0)) (getD numbers k 0))
 
--- "and write": octets with each field in its row's octets
+-- "and write": octets with each field in its row's octets. `sets octets i xs` has xs in the places from i on, counted from 0
 unfoldable pub laid : List Field → List ℕ → List ℕ
 laid [] octets = octets
 laid (f ∷ fields) octets = laid fields (sets octets (f .row .first - 1) (bigEndian (f .row .size) (f .number)))
