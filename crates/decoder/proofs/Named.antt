@@ -2,7 +2,7 @@
 use mathlib.Core.Path.{_≡_, sym, ap, _∙_}
 use mathlib.Core.List.{List}
 use Prim.Native.Nat.{ℕ}
-use Rattle.format.specs.Refusals.{Left, left}
+use Rattle.format.specs.Refusals.{left}
 use Rattle.format.specs.Section5.{namedBy, unpackNamed, unpackSection5}
 use Rattle.format.specs.Unpacking.{unpack52}
 use Rattle.format.specs.Differences.{unpack53}

@@ -1,9 +1,9 @@
 // Packing, after the Rust's encoder: groups, template numbers and payload of a list.
 ghost use mathlib.Core.Path.{_≡_};
-ghost use Prim.Native.Nat.{_<_, _≤_, _^_, _*_};
+ghost use Prim.Native.Nat.{_<_, _≤_, _^_};
 ghost use lib.ListN.{length};
 ghost use Rattle.format.specs.Lists.{greatest, _over_};
-ghost use Rattle.format.specs.Layout.{numbersIn, numberSize, inFours, groupSize, groupOctets};
+ghost use Rattle.format.specs.Layout.{numbersIn, inFours, groupSize, groupOctets};
 ghost use Rattle.format.specs.Refusals.{left};
 ghost use Rattle.format.specs.Grouping.{widthOf, groupsOf, recordsFrom, groupsLent};
 ghost use Rattle.format.specs.Packing.{templateOf, summaryNumbers, summarySize, packBy, pack};

@@ -125,6 +125,10 @@ module _ (fields : List Field) where
   abbrev pub differencingOf : Differencing
   differencingOf = record { order = at fields 48; octets = at fields 49 }
 
+  -- what they name, for unpacking
+  abbrev pub namedOf : Named
+  namedOf = cond (eqb (headOf .template) 3) (named.Spatial declaredOf templateOf differencingOf) (named.Complex declaredOf templateOf)
+
 -- ---- refusals
 
 -- "fewer octets are lent than the template has, the length is not the template's, the section number is not 5, or the template
@@ -170,15 +174,12 @@ writeSection5 numbers lent =
     (headRefusals (length numbers) (fieldCount (head .template)) head ++ fieldRefusals fields size lent)
     (left (stored.Span (record { 0 = size })) (laid fields lent))
 
--- what Section 5 names, for unpacking
+-- what Section 5 names
 unfoldable pub namedBy : List ℕ → Named
 namedBy section5 =
     let fields = fieldsIn table section5 in
     let head = headOf fields in
-    first named.Refused (headRefusals (length section5) (sectionSize (head .template)) head)
-    (cond (eqb (head .template) 3)
-    (named.Spatial (declaredOf fields) (templateOf fields) (differencingOf fields))
-    (named.Complex (declaredOf fields) (templateOf fields)))
+    first named.Refused (headRefusals (length section5) (sectionSize (head .template)) head) (namedOf fields)
 
 -- unpacking under the template that Section 5 names
 abbrev pub unpackNamed : Named → List ℕ → List ℕ → Left Unpacked

@@ -1,17 +1,16 @@
 -- What reading and naming answer, once the numbers of all rows are there. Assumes nothing.
-use mathlib.Core.Path.{_≡_, refl, sym, ap, _∙_}
-use mathlib.Core.Bool.{Bool, true, false, cond}
-use mathlib.Core.List.{List, [], _∷_, _++_, map}
+use mathlib.Core.Path.{_≡_, sym, ap}
+use mathlib.Core.Bool.{Bool, true, false}
+use mathlib.Core.List.{List, _++_}
 use Prim.Native.Nat.{ℕ, _/_, _*_, _≤_, _<_}
 use native.Mathlib.Omega.{arith}
 use borrow.Author.Tests.{lt-ltb, le-ltb, eq-eqb, ne-eqb}
-use lib.Dec.{eqb}
 use lib.ListN.{length, getD, take}
 use lib.Seq.{length-take-le}
 use Rattle.format.specs.Lists.{listed, _over_}
 use Rattle.format.specs.Layout.{inFours, numberSize}
 use Rattle.format.specs.Refusals.{first, roomRefusals, Left, left}
-use Rattle.format.specs.Section5.{table, rowsOf, sectionSize, fieldCount, numbersOf, fieldsIn, fieldsOf, headOf, declaredOf, templateOf, differencingOf, at, wrongHead, headRefusals, readSection5, namedBy}
+use Rattle.format.specs.Section5.{table, rowsOf, sectionSize, fieldCount, numbersOf, fieldsIn, fieldsOf, headOf, declaredOf, templateOf, differencingOf, namedOf, at, wrongHead, headRefusals, readSection5, namedBy}
 use Rattle.format.specs.declared.Refusal.the-variants.{Room, Section5}
 use Rattle.format.specs.declared.Head.{Head}
 use Rattle.format.specs.declared.Template.{Template}
@@ -42,13 +41,8 @@ module _ {section5 numbers : List ℕ} (n : Numbers section5 numbers) {template 
   front-room lent h = omega (arith, front-length)
 
 -- the two answers for a head
-abbrev namedWith : List ℕ → Head → Named
-namedWith section5 head =
-    let fields = fieldsIn table section5 in
-    first named.Refused (headRefusals (length section5) (sectionSize (head .template)) head)
-    (cond (eqb (head .template) 3)
-    (named.Spatial (declaredOf fields) (templateOf fields) (differencingOf fields))
-    (named.Complex (declaredOf fields) (templateOf fields)))
+abbrev pub namedWith : List ℕ → Head → Named
+namedWith section5 head = first named.Refused (headRefusals (length section5) (sectionSize (head .template)) head) (namedOf (fieldsIn table section5))
 
 abbrev pub readWith : List ℕ → List ℕ → Head → Left Fetched
 readWith section5 lent head =
@@ -83,11 +77,13 @@ module _ {section5 numbers : List ℕ} (n : Numbers section5 numbers) {head : He
 
     pub named-complex : (head .template ≡ 3 → ⊥) → named.Complex (getD numbers 2 0) t ≡ namedBy section5
     unfolding first
-    named-complex h = rw (← named-is, ← ea, ← ew, right, ne-eqb (head .template) 3 h, declared-is n, template-same)
+    named-complex h = rw (← named-is, ← ea, ← ew, right, ← ap (λ (x : Head). x .template) head-is, ne-eqb (head .template) 3 h, declared-is n, template-same)
 
     pub named-spatial : head .template ≡ 3 → {d : Differencing} → d ≡ differencingOf (fieldsOf table numbers) → named.Spatial (getD numbers 2 0) t d ≡ namedBy section5
     unfolding first
-    named-spatial h ed = rw (← named-is, ← ea, ← ew, right, eq-eqb (head .template) 3 h, declared-is n, template-same, rw (fields-same n) at ed)
+    named-spatial h ed =
+        rw
+        (← named-is, ← ea, ← ew, right, ← ap (λ (x : Head). x .template) head-is, eq-eqb (head .template) 3 h, declared-is n, template-same, rw (fields-same n) at ed)
 
   module _ (right : wrong ≡ false) {count : ℕ} (k : Counted (head .template) count) (lent : List ℕ) where
     pub read-room : length lent / numberSize < count → left (fetched.Refused Room) lent ≡ readSection5 section5 lent

@@ -1,22 +1,21 @@
 -- The table's rows, how many of them a template has, and the numbers in their octets. Assumes nothing.
-use mathlib.Core.Path.{_≡_, refl, sym, ap, _∙_}
+use mathlib.Core.Path.{_≡_, refl, ap, _∙_}
 use mathlib.Core.Bool.{Bool, true, false, not}
-use mathlib.Core.List.{List, [], _∷_, map}
-use Prim.Native.Nat.{ℕ, suc, _+_, _-_, _*_, _^_, _≤_, _<_}
+use mathlib.Core.List.{List}
+use Prim.Native.Nat.{ℕ, _+_, _-_, _*_, _^_, _≤_, _<_}
 use native.Mathlib.Omega.{arith}
 use borrow.Author.Tests.{ltb-false, lt-ltb, le-ltb, eq-eqb, ne-eqb}
 use lib.Dec.{ltb, eqb}
 use lib.ListN.{length, getD, set, replicate}
 use Rattle.format.specs.Lists.{listed, anyOf, _over_}
-use Rattle.format.specs.Section5.{row, table, sectionSize, fieldCount, Field, numbersOf, fieldIn, fieldsIn, fieldsOf, at, headOf, templateOf, differencingOf, wrongHead}
+use Rattle.format.specs.Section5.{row, table, sectionSize, fieldCount, fieldIn, fieldsOf, at, headOf, templateOf, differencingOf, wrongHead}
 use Rattle.format.specs.Template.{templateBy}
 use Rattle.format.specs.declared.Template.{Template}
-use Rattle.format.specs.declared.Differencing.{Differencing}
 use Rattle.format.specs.declared.Row.{Row}
 use Rattle.format.specs.declared.Head.{Head}
 use Rattle.laws.specs.Lists.{any-none, grown}
 use Rattle.laws.specs.Bits.{number-lt, bit-lt}
-use Rattle.section5.specs.Reading.{InTable, Counted, Fitting, Numbers}
+use Rattle.section5.specs.Reading.{InTable, Counted, Numbers}
 
 -- ---- rows
 

@@ -5,15 +5,15 @@ use mathlib.Core.List.{List, [], _∷_, _++_}
 use Prim.Native.Nat.{ℕ, _+_, _-_, _*_, _/_, _^_, _≤_, _<_}
 use native.Mathlib.Numerals.{add-one}
 use native.Mathlib.Omega.{arith}
-use borrow.Author.Tests.{lt-ltb, le-ltb, ltb-false}
-use lib.Dec.{leb, ltb, eqb}
+use borrow.Author.Tests.{lt-ltb, le-ltb}
+use lib.Dec.{leb, eqb}
 use lib.ListN.{length, getD, take, drop}
 use lib.Seq.{sets, length-take-le, take-all, take-suc, getD-take}
-use Rattle.format.specs.Lists.{listed, anyOf, wholeOnes}
+use Rattle.format.specs.Lists.{anyOf, wholeOnes}
 use Rattle.format.specs.Bits.{numberAt}
 use Rattle.format.specs.Layout.{numberSize, numbersIn, bigEndian}
 use Rattle.format.specs.Section5.{row, table, sectionSize, fieldCount, rowsOf, Field, field, fieldsOf, laid, headOf, wrongHead, headRefusals, fieldRefusals, tooLarge, writeSection5}
-use Rattle.format.specs.Refusals.{_gives_, first, Left, left}
+use Rattle.format.specs.Refusals.{first, Left, left}
 use Rattle.format.specs.declared.Refusal.the-variants.{Room, Numbers, Section5}
 use Rattle.format.specs.declared.Row.{Row}
 use Rattle.format.specs.declared.Head.{Head}

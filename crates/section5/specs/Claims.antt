@@ -6,7 +6,7 @@ use lib.ListN.{length, getD, take}
 use Rattle.format.specs.Lists.{_over_}
 use Rattle.format.specs.Layout.{numberSize, numbersIn, inFours}
 use Rattle.format.specs.Refusals.{left}
-use Rattle.format.specs.Section5.{Covers, rowsOf, sectionSize, fieldCount, table, fieldsIn, fieldsOf, headOf, readSection5, writeSection5}
+use Rattle.format.specs.Section5.{Covers, rowsOf, sectionSize, fieldCount, table, fieldsIn, fieldsOf, headOf, namedOf, readSection5, writeSection5, namedBy}
 use Rattle.format.specs.declared.OctetPlace.{OctetPlace}
 use Rattle.format.specs.declared.Fetched.the-variants as fetched
 use Rattle.format.specs.declared.Stored.the-variants as stored
@@ -42,5 +42,12 @@ OctetsBack =
     → left (stored.Span (record { 0 = sectionSize (templateOfOctets section5) })) (take (sectionSize (templateOfOctets section5)) section5 over octets)
     ≡ writeSection5 (numbersIn fields) octets
 
+-- "typing template numbers out of it breeds mistakes": the octets that were written name what the numbers name, so that unpacking
+-- by them is unpacking with the numbers
+abbrev pub NamedAlike : Type 0
+NamedAlike =
+    (numbers lent section5 : List ℕ) (span : OctetPlace) → left (stored.Span span) section5 ≡ writeSection5 numbers lent
+    → namedBy section5 ≡ namedOf (fieldsOf table numbers)
+
 abbrev pub NumberOne : Type 0
-NumberOne = EachOctetOnce × FieldsBack × OctetsBack
+NumberOne = EachOctetOnce × FieldsBack × OctetsBack × NamedAlike

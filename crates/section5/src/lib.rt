@@ -1,7 +1,7 @@
 // Section 5 of templates 5.2 and 5.3, read and written by one table.
 ghost use mathlib.Core.Path.{_≡_};
 ghost use mathlib.Core.List.{_∷_, []};
-ghost use Prim.Native.Nat.{_+_, _-_, _*_, _<_, _≤_, _^_};
+ghost use Prim.Native.Nat.{_+_, _-_, _*_, _<_, _≤_};
 ghost use lib.ListN.{length, getD};
 ghost use Rattle.format.specs.Lists.{anyOf, wholeOnes};
 ghost use Rattle.format.specs.Layout.{numberSize, numbersIn};

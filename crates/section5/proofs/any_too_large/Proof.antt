@@ -1,7 +1,7 @@
 -- `section5::any_too_large` meets its contract: whether one is too large is whether one of those left is. Assumes nothing.
 use Prim.Native.Nat.{_-_}
 use borrow.Author.Needs.{needs}
-use Rattle.section5.proofs.Writing.{Searched, searched-none, lent-there, large-here, large-later, large-none}
+use Rattle.section5.proofs.Writing.{Searched, searched-none, large-here, large-later, large-none}
 use Rattle.section5.proofs.any_too_large.Statement.{statement}
 use Rattle.section5.proofs.any_too_large.Tie as tie
 
