@@ -311,14 +311,31 @@ covers-by rows n each start end = record { once = once; before = start; beyond =
         (rw (getD-listed n (λ i. i) 0 i b) at
         (any-none (λ i. not (eqb (holders rows (suc i)) 1)) (listed n (λ i. i)) 0 each i (omega (arith, length-listed n (λ i. i)))))
 
+-- what holds of the rows and octets of both templates holds of a template's
+pub either-template : (P : ℕ → ℕ → Type 0) → P 22 49 → P 20 47 → (template : ℕ) → P (fieldCount template) (sectionSize template)
+unfolding fieldCount sectionSize
+either-template P spatial complex template = by-test (eqb template 3)
+  where
+    by-test : (b : Bool) → P (cond b 22 20) (cond b 49 47)
+    by-test true = spatial
+    by-test false = complex
+
 -- "the table's rows are shown to cover each octet once, one statement for both templates"
 pub covered : (template : ℕ) → Covers (rowsOf template) (sectionSize template)
-unfolding table sectionSize fieldCount holders anyOf listed
-covered template = by-test (eqb template 3)
-  where
-    by-test : (b : Bool) → Covers (take (cond b 22 20) table) (cond b 49 47)
-    by-test true = covers-by (take 22 table) 49 refl refl refl
-    by-test false = covers-by (take 20 table) 47 refl refl refl
+unfolding table holders anyOf listed
+covered =
+    either-template (λ count size. Covers (take count table) size) (covers-by (take 22 table) 49 refl refl refl)
+    (covers-by (take 20 table) 47 refl refl refl)
+
+pub rows-length : (template : ℕ) → length (rowsOf template) ≡ fieldCount template
+unfolding table
+rows-length = either-template (λ count size. length (take count table) ≡ count) refl refl
+
+pub fields-some : (template : ℕ) → 20 ≤ fieldCount template
+fields-some = either-template (λ count size. 20 ≤ count) (omega arith) (omega arith)
+
+pub fields-few : (template : ℕ) → fieldCount template ≤ 22
+fields-few = either-template (λ count size. count ≤ 22) (omega arith) (omega arith)
 
 -- ---- what 14 does not refuse
 

@@ -26,46 +26,22 @@ use Rattle.laws.specs.Lists.{listed-front, listed-ext, listed-map, map-listed, 
 use Rattle.laws.specs.Bits.{number-lt, number-below, bit-lt}
 use Rattle.laws.specs.Stores.{octet-power, length-flat, number-listed}
 use Rattle.laws.specs.Groups.{four-each, number-read-back}
-use Rattle.laws.specs.Section5.{rowOf, length-laid, fields-back, octets-back, covered, Right, right-head, head-right}
+use Rattle.laws.specs.Section5.{rowOf, length-laid, fields-back, octets-back, either-template, covered, rows-length, fields-few, Right, right-head, head-right}
 use Rattle.section5.specs.Reading.{writtenBy}
 use Rattle.section5.specs.Claims.{templateOfNumbers, FieldsBack, OctetsBack, NumberOne}
 use Rattle.section5.proofs.Rows.{in-table}
 use Rattle.section5.proofs.Answers.{readWith, namedWith}
 use Rattle.section5.proofs.Writing.{with-head, numbers-length}
 
--- ---- a template's rows, and the head that stands in the first of them
+-- ---- the head stands in rows that both templates have
 
-rows-length : (template : ℕ) → length (rowsOf template) ≡ fieldCount template
-unfolding fieldCount table
-rows-length template = by-test (eqb template 3)
-  where
-    by-test : (b : Bool) → length (take (cond b 22 20) table) ≡ cond b 22 20
-    by-test true = refl
-    by-test false = refl
+head-of-octets : (section5 : List ℕ) (template : ℕ) → headOf (fieldsIn (rowsOf template) section5) ≡ headOf (fieldsIn table section5)
+unfolding table at
+head-of-octets section5 = either-template (λ count size. headOf (fieldsIn (take count table) section5) ≡ headOf (fieldsIn table section5)) refl refl
 
-fields-few : (template : ℕ) → fieldCount template ≤ 22
-unfolding fieldCount
-fields-few template = by-test (eqb template 3)
-  where
-    by-test : (b : Bool) → cond b 22 20 ≤ 22
-    by-test true = omega arith
-    by-test false = omega arith
-
-head-of-octets : (template : ℕ) (section5 : List ℕ) → headOf (fieldsIn (rowsOf template) section5) ≡ headOf (fieldsIn table section5)
-unfolding fieldCount table at
-head-of-octets template section5 = by-test (eqb template 3)
-  where
-    by-test : (b : Bool) → headOf (fieldsIn (take (cond b 22 20) table) section5) ≡ headOf (fieldsIn table section5)
-    by-test true = refl
-    by-test false = refl
-
-head-of-numbers : (template : ℕ) (numbers : List ℕ) → headOf (fieldsOf (rowsOf template) numbers) ≡ headOf (fieldsOf table numbers)
-unfolding fieldCount table at listed
-head-of-numbers template numbers = by-test (eqb template 3)
-  where
-    by-test : (b : Bool) → headOf (fieldsOf (take (cond b 22 20) table) numbers) ≡ headOf (fieldsOf table numbers)
-    by-test true = refl
-    by-test false = refl
+head-of-numbers : (numbers : List ℕ) (template : ℕ) → headOf (fieldsOf (rowsOf template) numbers) ≡ headOf (fieldsOf table numbers)
+unfolding table at listed
+head-of-numbers numbers = either-template (λ count size. headOf (fieldsOf (take count table) numbers) ≡ headOf (fieldsOf table numbers)) refl refl
 
 -- so does all that they name: the last two rows matter to 5.3 alone
 named-of-octets : (template : ℕ) (section5 : List ℕ) → headOf (fieldsIn table section5) .template ≡ template
@@ -143,7 +119,7 @@ module _ (numbers lent section5 : List ℕ) (span : OctetPlace) (e : left (store
       ∙ fields-back fields (rw same-rows (covered template)) (field (row 0 0) 0) lent room fit
 
   same-head : headOf (fieldsIn table section5) ≡ head
-  same-head = sym (head-of-octets template section5) ∙ ap (λ (fs : List Field). headOf fs) back ∙ head-of-numbers template numbers
+  same-head = sym (head-of-octets section5 template) ∙ ap (λ (fs : List Field). headOf fs) back ∙ head-of-numbers numbers template
 
   good : wrongHead (length section5) (sectionSize template) head ≡ false
   good =
@@ -245,7 +221,7 @@ module _ (section5 lent kept : List ℕ) (small : (i : ℕ) → getD section5 i 
       whole k l = rw (getD-take (fieldCount templateRead) table k (row 0 0) l, number-kept k l)
 
   head-kept : headOf (fieldsOf table (numbersIn kept)) ≡ headRead
-  head-kept = sym (head-of-numbers templateRead (numbersIn kept)) ∙ ap (λ (fs : List Field). headOf fs) fields-kept ∙ head-of-octets templateRead section5
+  head-kept = sym (head-of-numbers (numbersIn kept) templateRead) ∙ ap (λ (fs : List Field). headOf fs) fields-kept ∙ head-of-octets section5 templateRead
 
   write-back : (octets : List ℕ) → sectionSize templateRead ≤ length octets
       → left (stored.Span (record { 0 = sectionSize templateRead })) (take (sectionSize templateRead) section5 over octets) ≡ writeSection5 (numbersIn kept) octets

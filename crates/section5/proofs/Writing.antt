@@ -1,14 +1,14 @@
 -- Writing fields, row by row. Assumes nothing.
 use mathlib.Core.Path.{_≡_, refl, sym, ap, _∙_}
-use mathlib.Core.Bool.{Bool, true, false, cond}
+use mathlib.Core.Bool.{Bool, true, false}
 use mathlib.Core.List.{List, [], _∷_, _++_}
 use Prim.Native.Nat.{ℕ, _+_, _-_, _*_, _/_, _^_, _≤_, _<_}
 use native.Mathlib.Numerals.{add-one}
 use native.Mathlib.Omega.{arith}
 use borrow.Author.Tests.{lt-ltb, le-ltb}
-use lib.Dec.{leb, eqb}
+use lib.Dec.{leb}
 use lib.ListN.{length, getD, take, drop}
-use lib.Seq.{sets, length-take-le, take-all, take-suc, getD-take}
+use lib.Seq.{sets, take-all, take-suc, getD-take}
 use Rattle.format.specs.Lists.{anyOf, wholeOnes}
 use Rattle.format.specs.Bits.{numberAt}
 use Rattle.format.specs.Layout.{numberSize, numbersIn, bigEndian}
@@ -22,7 +22,7 @@ use Rattle.format.specs.declared.Stored.the-variants as stored
 use Rattle.laws.specs.Lists.{length-listed, getD-listed, any-here, any-later, any-end}
 use Rattle.laws.specs.First.{first-joined}
 use Rattle.laws.specs.Stores.{octet-power, number-listed}
-use Rattle.laws.specs.Section5.{length-laid, laid-append, row-within, covered, right-head}
+use Rattle.laws.specs.Section5.{length-laid, laid-append, row-within, covered, rows-length, fields-some, right-head}
 use Rattle.section5.proofs.Rows.{in-table, wrong-lent, head-is}
 use Rattle.section5.specs.Reading.{InTable, Counted, lentField, Writable, writtenBy}
 
@@ -54,12 +54,11 @@ pub record Written (fields : List ℕ) (template count : ℕ) (lent now : List �
   pub long : length now ≡ length lent
 
 module _ (fields : List ℕ) {template count : ℕ} (c : Counted template count) (enough : fieldCount template ≤ wholeOnes numberSize fields) where
-  rows-length : length (rowsOf template) ≡ count
-  unfolding table
-  rows-length = rw (← c .is) (length-take-le count table (omega (arith, c .few)))
+  rows-counted : length (rowsOf template) ≡ count
+  rows-counted = rows-length template ∙ sym (c .is)
 
   fields-length : length (lentFields fields template) ≡ count
-  fields-length = length-listed (length (rowsOf template)) _ ∙ rows-length
+  fields-length = length-listed (length (rowsOf template)) _ ∙ rows-counted
 
   pub searched-none : Searched fields template count 0
   searched-none = record { some = omega arith; so-far = refl }
@@ -78,7 +77,7 @@ module _ (fields : List ℕ) {template count : ℕ} (c : Counted template count)
 
     field-at : getD (lentFields fields template) k (field (row 0 0) 0) ≡ lentField fields k
     field-at =
-        getD-listed (length (rowsOf template)) (λ k. field (getD (rowsOf template) k (row 0 0)) (getD (numbersIn fields) k 0)) (field (row 0 0) 0) k (omega (arith, rows-length))
+        getD-listed (length (rowsOf template)) (λ k. field (getD (rowsOf template) k (row 0 0)) (getD (numbersIn fields) k 0)) (field (row 0 0) 0) k (omega (arith, rows-counted))
         ∙ rw row-same
 
     module _ {large : Bool} (e : large ≡ tooLarge (lentField fields k)) where
@@ -95,7 +94,7 @@ module _ (fields : List ℕ) {template count : ℕ} (c : Counted template count)
     pub row-room : {lent now : List ℕ} → Written fields template count lent now k → sectionSize template ≤ length lent → Writable fields k now
     row-room {lent} {now} s h =
         let some = in-table k (lent-there .0) .some in
-        let within = rw row-same at (row-within (covered template) (row 0 0) k (omega (arith, rows-length))) some in
+        let within = rw row-same at (row-within (covered template) (row 0 0) k (omega (arith, rows-counted))) some in
         record { among = lent-there .0; number = lent-there .1; room = omega (arith, within .1, s .long) }
 
     pub written-more : {lent now next : List ℕ} → Written fields template count lent now k → next ≡ laid (lentField fields k ∷ []) now
@@ -136,14 +135,6 @@ abbrev pub writeWith : List ℕ → List ℕ → Head → Left Stored
 writeWith numbers lent head =
     first (λ r. left (stored.Refused r) lent) (headRefusals (length numbers) (fieldCount (head .template)) head) (writtenBy (head .template) numbers lent)
 
-twenty-fields : (template : ℕ) → 20 ≤ fieldCount template
-unfolding fieldCount
-twenty-fields template = by-test (eqb template 3)
-  where
-    by-test : (b : Bool) → 20 ≤ cond b 22 20
-    by-test true = omega arith
-    by-test false = omega arith
-
 module _ (fields lent : List ℕ) where
   pub numbers-length : length (numbersIn fields) ≡ wholeOnes numberSize fields
   numbers-length = length-listed (wholeOnes numberSize fields) _
@@ -161,7 +152,7 @@ module _ (fields lent : List ℕ) where
   unfolding first
   write-few l =
       let head = headOf (fieldsOf table (numbersIn fields)) in
-      rw (← with-head refl, ← wrong-lent (length (numbersIn fields)) (fieldCount (head .template)) head (omega (arith, numbers-length, twenty-fields (head .template))))
+      rw (← with-head refl, ← wrong-lent (length (numbersIn fields)) (fieldCount (head .template)) head (omega (arith, numbers-length, fields-some (head .template))))
 
   module _ {a b c : ℕ} (enough : 20 ≤ length fields / numberSize) (ea : a ≡ numberAt fields (0 * 32) 32) (eb : b ≡ numberAt fields (1 * 32) 32) (ec : c ≡ numberAt fields (3 * 32) 32)
       {count : ℕ} (k : Counted c count) {wrong : Bool} (ew : wrong ≡ wrongHead (length fields / numberSize) count (record { length = a; number = b; template = c })) where
