@@ -61,8 +61,8 @@ enum cleatmow_refusal {
     /* packing: list empty or above 4,194,304 numbers, a number above 2,147,483,647, lookahead outside 1 to 65,535;
        writing Section 5: a number that its octets do not hold */
     CLEATMOW_REFUSAL_NUMBERS = 13,
-    /* Section 5: fewer octets than its template has, a length that is not its template's, a section number other than
-       5, or a template other than 5.2 and 5.3 */
+    /* Section 5: fewer octets or fields than its template has (fewer than eleven octets name none), a length that is
+       not its template's, a section number other than 5, or a template other than 5.2 and 5.3 */
     CLEATMOW_REFUSAL_SECTION5 = 14
 };
 
@@ -186,7 +186,8 @@ uint32_t cleatmow_read_section5(
  *
  * Refusals, in this order: 14, for fewer fields than the template has too; 13 for a number that its octets do not hold;
  * 10. A refusal changes nothing.
- * 0: Section 5 stands at the front of `section5`; the octets past it are unchanged. Reading it gives back every field.
+ * 0: Section 5 stands at the front of `section5`, as many octets as its section length says; the octets past it are
+ *    unchanged. Reading it gives back every field.
  */
 uint32_t cleatmow_write_section5(
     const uint8_t *fields, size_t fields_len,

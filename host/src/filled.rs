@@ -26,7 +26,8 @@ impl One<'_> {
 
 /// What a call has left at the front of the octets that it was lent: [`Points`](crate::Points),
 /// [`Levels`](crate::Levels), [`Groups`](crate::Groups) or [`Fields`](crate::Fields). A view has as many places as the
-/// answer, and none past it, however much was lent. Nothing is copied: each is read from its octets when it is asked for.
+/// answer, and none past it, however much was lent. Nothing is copied: each is read from its octets when it is asked
+/// for.
 ///
 /// Only a call that was not refused makes one. Octets that no call has filled cannot be taken for an answer:
 ///

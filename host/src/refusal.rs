@@ -35,8 +35,8 @@ pub enum Refusal {
     /// Packing: list empty or above 4,194,304 numbers, a number above 2,147,483,647, lookahead outside 1 to 65,535.
     /// Writing Section 5: a number that its octets do not hold.
     Numbers = 13,
-    /// Section 5: fewer octets than its template has, a length that is not its template's, a section number other than
-    /// 5, or a template other than 5.2 and 5.3.
+    /// Section 5: fewer octets or fields than its template has (fewer than eleven octets name none), a length that is
+    /// not its template's, a section number other than 5, or a template other than 5.2 and 5.3.
     Section5 = 14,
 }
 
@@ -125,9 +125,8 @@ impl Refusal {
                  or a number does not fit its octets of Section 5"
             }
             Refusal::Section5 => {
-                "this is no whole Section 5 of template 5.2 or 5.3: it has too few octets or fields, \
-                 or another length, section number or template: \
-                 it was cut off or damaged, or is of a map that is not read here"
+                "there is no whole Section 5 of template 5.2 or 5.3: octets or fields are too few, \
+                 or the length, the section number or the template is another"
             }
         }
     }

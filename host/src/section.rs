@@ -70,7 +70,7 @@ pub enum NotSection {
 impl fmt::Display for NotSection {
     fn fmt(&self, f: &mut fmt::Formatter<'_>) -> fmt::Result {
         match self {
-            NotSection::Short { section, count } => write!(f, "{count} octets are too few for a Section {section}"),
+            NotSection::Short { section, count } => write!(f, "too few octets for a Section {section}: {count}"),
             NotSection::Number { section, number } => write!(f, "the section number is {number}, and not {section}"),
             NotSection::Length { section, length, count } if u64::from(*length) < *count as u64 => {
                 write!(f, "octets stand behind Section {section}: it says that it has {length}, and {count} are there")

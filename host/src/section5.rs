@@ -40,8 +40,8 @@ pub enum TemplateNumbers {
     },
 }
 
-/// How numbers become physical values. Document 01 leaves that outside, so it is carried from one Section 5 to another as
-/// bits. The default has none of them set: numbers are then physical values as they are.
+/// How numbers become physical values. The documents leave that outside, so it is carried from one Section 5 to another
+/// as bits. The default has none of them set: numbers are then physical values as they are.
 #[derive(Clone, Copy, Debug, Default, PartialEq, Eq)]
 pub struct Physical {
     /// Reference value. Octets 12 to 15.

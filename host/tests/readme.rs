@@ -64,7 +64,7 @@ fn in_c() {
     };
     assert!(built.status.success(), "{}", String::from_utf8_lossy(&built.stderr));
     let ran = Command::new(folder.join("site")).output().unwrap();
-    hold(&ran, "0: last point has mark 0 and number 7\n");
+    hold(&ran, "the last point has mark 0 and number 7\n");
 }
 
 #[test]

@@ -222,7 +222,7 @@ fn octets_that_have_no_payload() {
 #[test]
 fn sentences() {
     let told = |octets: &[u8]| Section5::from_octets(octets).unwrap_err().to_string();
-    assert_eq!(told(b"GRIB"), "4 octets are too few for a Section 5");
+    assert_eq!(told(b"GRIB"), "too few octets for a Section 5: 4");
     assert_eq!(told(b"GRIB\0\0\0\x02\0\0\0\0"), "the section number is 0, and not 5");
     assert_eq!(told(&section(3, 49)[..47]), "Section 5 says that it has 49 octets, and 47 are there");
     let behind = [section(3, 49), vec![0; 3]].concat();
@@ -235,7 +235,7 @@ fn sentences() {
         let error: Box<dyn Error> = payload_of(octets).unwrap_err().into();
         error.to_string()
     };
-    assert_eq!(told(b""), "0 octets are too few for a Section 7");
+    assert_eq!(told(b""), "too few octets for a Section 7: 0");
     assert_eq!(told(&section(3, 49)), "the section number is 5, and not 7");
     assert_eq!(told(&[0, 0, 0, 8, 7, 0xBC, 0x80]), "Section 7 says that it has 8 octets, and 7 are there");
     let behind = "octets stand behind Section 7: it says that it has 6, and 7 are there";

@@ -1,5 +1,5 @@
 -- Document 01, "Cases", and cases of document 02's requests: one list with one claim. Assumes nothing.
-use Prim.Native.Nat.{ℕ}
+use Prim.Native.Nat.{ℕ, _+_}
 use mathlib.Core.Path.{_≡_, refl}
 use mathlib.Core.List.{List, [], _∷_, flatMap}
 use Rattle.format.specs.Seen.{Case, _shows_, AllHold, lent, refused, numbers, spanned, number, points, levels, group, packs, reading, template, unpacking, restoring, readingSection5, writingSection5, unpackingSection5, unrolling, packing}
@@ -14,7 +14,9 @@ use Rattle.format.specs.Grouping.{digitsIn, bits, widthOf, endsBefore, g
 use Rattle.format.specs.Packing.{summarySize, widthCoding, gcdIn, gcd, gcdFrom, divisorUpTo, incrementOf, butLast, lengthCoding, templateOf, lengthCodes, valueString, payloadOf, packingOf, packBy}
 use Rattle.format.specs.Section5.{table, sectionSize, fieldCount, laid, at, wrongHead, readSection5, writeSection5, namedBy}
 use Rattle.format.specs.Layout.{groupSize, inFours}
+use Rattle.format.specs.Template.{templateBy}
 use Rattle.format.specs.declared.DecodedValue.the-variants.{Missing1, Missing2}
+use Rattle.format.specs.declared.Named.the-variants as named
 
 -- The maps of two of these with their Section 5, octet by octet, and its fields: under 5.2 BC 80 40 with management 1, under 5.3
 -- 0A 82 0C 50. Reference value 10.0, scales −1 and 2, field type 1.
@@ -33,6 +35,15 @@ octets53 =
 
 abbrev pub fields53 : List ℕ
 fields53 = 49 ∷ 5 ∷ 4 ∷ 3 ∷ 0x41200000 ∷ 0x8001 ∷ 2 ∷ 0 ∷ 1 ∷ 1 ∷ 0 ∷ 0xFFFFFFFF ∷ 0xFFFFFFFF ∷ 1 ∷ 3 ∷ 0 ∷ 0 ∷ 0 ∷ 4 ∷ 0 ∷ 1 ∷ 1 ∷ []
+
+-- a Section 5 whose octets each hold their own place, but for length and template: what is read of it shows the table
+abbrev pub places53 : List ℕ
+places53 = 0 ∷ 0 ∷ 0 ∷ 49 ∷ 5 ∷ 6 ∷ 7 ∷ 8 ∷ 9 ∷ 0 ∷ 3 ∷ listed 38 (λ i. 12 + i)
+
+abbrev pub fieldsOfPlaces53 : List ℕ
+fieldsOfPlaces53 =
+    49 ∷ 5 ∷ 0x06070809 ∷ 3 ∷ 0x0C0D0E0F ∷ 0x1011 ∷ 0x1213 ∷ 20 ∷ 21 ∷ 22 ∷ 23 ∷ 0x18191A1B ∷ 0x1C1D1E1F ∷ 0x20212223 ∷ 36 ∷ 37
+    ∷ 0x26272829 ∷ 42 ∷ 0x2B2C2D2E ∷ 47 ∷ 48 ∷ 49 ∷ []
 
 abbrev pub cases : List Case
 cases =
@@ -75,6 +86,8 @@ cases =
     ∷ readingSection5 octets53 88 shows numbers (inFours fields53)
     ∷ writingSection5 fields52 47 shows spanned 47 octets52
     ∷ writingSection5 fields53 49 shows spanned 49 octets53
+    ∷ readingSection5 places53 88 shows numbers (inFours fieldsOfPlaces53)
+    ∷ writingSection5 fieldsOfPlaces53 49 shows spanned 49 places53
     ∷ unpackingSection5 octets52 (0xBC ∷ 0x80 ∷ 0x40 ∷ []) 36 shows points (number 5 ∷ Missing1 ∷ number 5 ∷ Missing1 ∷ [])
     ∷ unpackingSection5 octets53 (0x0A ∷ 0x82 ∷ 0x0C ∷ 0x50 ∷ []) 36
     shows points (number 10 ∷ number 11 ∷ number 9 ∷ number 12 ∷ [])
@@ -83,6 +96,12 @@ cases =
 pub all-hold : AllHold cases
 unfolding listed referenceOf total joined anyOf greatest least flatMap first bitIn numberOf spanOf readField writeField widthsAt lengthsAt valuesAt codesOf saidBy groupWidth groupLength pointsBefore bitsBefore wrongGroup decoded pointOf pointAt pointsUpTo placesOf unpack52 descriptorsOf raised expected restored beyond points53 left53 unpack53 levelsOf repeatsFirst levelsIn runLength digitsIn bits widthOf endsBefore groupsFrom groupsOf recordsFrom widthCoding gcdIn gcd gcdFrom divisorUpTo incrementOf butLast lengthCoding templateOf lengthCodes valueString payloadOf packingOf packBy table sectionSize fieldCount laid at wrongHead readSection5 writeSection5 namedBy
 all-hold = refl
+
+-- document 02, No. 1: where Section 5 has each number that unpacking takes
+pub places-named : namedBy places53
+    ≡ named.Spatial 0x06070809 (templateBy 20 22 23 0x20212223 36 37 0x26272829 42 0x2B2C2D2E 47) (record { order = 48; octets = 49 })
+unfolding first listed bitIn numberOf table sectionSize at wrongHead namedBy
+places-named = refl
 
 -- "Pack ten 0, 310 times 8, five 0, k 1": the lengths of its groups, and how they are coded
 pub step-of-300 : lengthCoding (10 ∷ 310 ∷ 5 ∷ []) ≡ record { reference = 10; increment = 150; last = 5; bits = 2 }

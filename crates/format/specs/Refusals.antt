@@ -1,4 +1,4 @@
--- Document 01, "What each number says". Assumes nothing.
+-- Document 01, "What each number says", and 14 of document 02. Assumes nothing.
 use Prim.Native.Nat.{ℕ}
 use mathlib.Core.Bool.{Bool, true, false, not}
 use mathlib.Core.List.{List, [], _∷_}

@@ -47,8 +47,8 @@ table =
     -- in 5.3 also order (48) and descriptor octets (49)."
     ∷ row 48 1 ∷ row 49 1 ∷ []
 
--- "templates 5.2 (47 octets) and 5.3 (49)": the octets that a template has, and its rows, of which 5.3 "also" has the last two.
--- A number that is neither has those of 5.2, and is refused
+-- "templates 5.2 (47 octets) and 5.3 (49)", whose numbers in octets 10 and 11 are 2 and 3: the octets that a template has, and
+-- its rows, of which 5.3 "also" has the last two. A number that is neither has those of 5.2, and is refused
 unfoldable pub sectionSize : ℕ → ℕ
 sectionSize template = cond (eqb template 3) 49 47
 
@@ -144,7 +144,8 @@ headRefusals lent asked head =
     wrongHead lent asked head gives Section5
     ∷ []
 
--- 13 in writing: a number that its row's octets do not hold; then 10: "A lent output that is too small"
+-- 13 in writing, an addition (docs/DECISIONS.md, 112): a number that its row's octets do not hold; then 10: "A lent output that
+-- is too small"
 abbrev pub tooLarge : Field → Bool
 tooLarge f = leb (256 ^ f .row .size) (f .number)
 
@@ -156,15 +157,16 @@ fieldRefusals fields size lent =
 
 -- ---- reading, writing, unpacking
 
--- the fields go to lent octets, four a number. "A lent output that is too small is 10."
+-- The fields go to lent octets, four a number (112). "A lent output that is too small is 10."
 unfoldable pub readSection5 : List ℕ → List ℕ → Left Fetched
 readSection5 section5 lent =
     let head = headOf (fieldsIn table section5) in
     first (λ r. left (fetched.Refused r) lent)
-    (headRefusals (length section5) (sectionSize (head .template)) head ++ roomRefusals numberSize lent (fieldCount (head .template)))
+    (headRefusals (length section5) (sectionSize (head .template)) head
+    ++ roomRefusals numberSize lent (fieldCount (head .template)))
     (left fetched.Done (inFours (numbersOf (fieldsIn (rowsOf (head .template)) section5)) over lent))
 
--- numbers, one a row; fewer of them than the template has rows are 14 too. It answers the octets written.
+-- The fields are numbers, one a row; fewer than the template has rows are 14 too (112). It answers the octets written.
 unfoldable pub writeSection5 : List ℕ → List ℕ → Left Stored
 writeSection5 numbers lent =
     let head = headOf (fieldsOf table numbers) in
@@ -174,14 +176,13 @@ writeSection5 numbers lent =
     (headRefusals (length numbers) (fieldCount (head .template)) head ++ fieldRefusals fields size lent)
     (left (stored.Span (record { 0 = size })) (laid fields lent))
 
--- what Section 5 names
+-- "typing template numbers out of it breeds mistakes": what Section 5 names, and unpacking by it, an addition (118)
 unfoldable pub namedBy : List ℕ → Named
 namedBy section5 =
     let fields = fieldsIn table section5 in
     let head = headOf fields in
     first named.Refused (headRefusals (length section5) (sectionSize (head .template)) head) (namedOf fields)
 
--- unpacking under the template that Section 5 names
 abbrev pub unpackNamed : Named → List ℕ → List ℕ → Left Unpacked
 unpackNamed (named.Complex declared t) payload lent = unpack52 t declared payload lent
 unpackNamed (named.Spatial declared t d) payload lent = unpack53 t d declared payload lent

@@ -185,7 +185,7 @@ sentences =
     ∷ writingSection5 (set fields52 7 255) 46 shows refused 10 (lent 46 ∷ [])
     ∷ unpackingSection5 (set (set octets52 4 6) 21 0) [] 0 shows refused 14 (lent 0 ∷ [])
     ∷ unpackingSection5 (set octets52 21 0) [] 0 shows refused 1 (lent 0 ∷ [])
-    -- "fewer octets are lent than the template has", of which one is as if it had none
+    -- "fewer octets are lent than the template has": none at all, too few to name a template, one too few
     ∷ readingSection5 [] 80 shows refused 14 (lent 80 ∷ [])
     ∷ readingSection5 (take 10 octets52) 80 shows refused 14 (lent 80 ∷ [])
     ∷ readingSection5 (take 48 octets53) 88 shows refused 14 (lent 88 ∷ [])
@@ -196,8 +196,16 @@ sentences =
     ∷ readingSection5 (set octets52 4 7) 80 shows refused 14 (lent 80 ∷ [])
     ∷ readingSection5 (set octets52 10 4) 80 shows refused 14 (lent 80 ∷ [])
     ∷ readingSection5 (set octets52 10 1) 80 shows refused 14 (lent 80 ∷ [])
+    ∷ readingSection5 (set octets53 3 47) 88 shows refused 14 (lent 88 ∷ [])
+    ∷ readingSection5 (set octets52 4 4) 80 shows refused 14 (lent 80 ∷ [])
+    ∷ readingSection5 (set octets52 9 1) 80 shows refused 14 (lent 80 ∷ [])
     ∷ writingSection5 (set fields52 0 49) 49 shows refused 14 (lent 49 ∷ [])
     ∷ writingSection5 (set fields53 3 4) 49 shows refused 14 (lent 49 ∷ [])
+    -- 13, for a row of each size; 10, for 5.3 too
+    ∷ writingSection5 (set fields52 5 65536) 47 shows refused 13 (lent 47 ∷ [])
+    ∷ writingSection5 (set fields52 4 4294967296) 47 shows refused 13 (lent 47 ∷ [])
+    ∷ readingSection5 octets53 87 shows refused 10 (lent 87 ∷ [])
+    ∷ writingSection5 fields53 48 shows refused 10 (lent 48 ∷ [])
     -- more than the template has is not looked at, and what is past the answer stays
     ∷ readingSection5 (octets52 ++ (9 ∷ [])) 83 shows numbers (inFours fields52 ++ lent 3)
     ∷ writingSection5 (fields52 ++ (256 ∷ 256 ∷ [])) 48 shows spanned 47 (octets52 ++ lent 1)

@@ -3,12 +3,11 @@ use mathlib.Core.Path.{_≡_, refl, sym, ap, _∙_}
 use mathlib.Core.Bool.{Bool, true, false, cond, not, _||_, _&&_, and-false, and-eq-true-iff}
 use mathlib.Core.List.{List, [], _∷_, _++_, map}
 use Prim.Native.Nat.{ℕ, zero, suc, _+_, _-_, _*_, _/_, _%_, _^_, _≤_, _<_}
-use native.Mathlib.Nat.{add-zero, add-suc, suc-add}
 use native.Mathlib.Omega.{arith}
 use borrow.Author.Tests.{ltb-true, ltb-false, leb-true, leb-false, lt-ltb, le-ltb, le-leb, eq-eqb}
 use lib.Dec.{eqb, ltb, leb}
-use lib.ListN.{length, getD, set, take, drop, length-set, List·getD-append}
-use lib.Seq.{sets, length-sets, getD-set-same, getD-set-other, ext-getD, length-take-le, getD-take, getD-drop, getD-append-add}
+use lib.ListN.{length, getD, take, drop, List·getD-append}
+use lib.Seq.{sets, length-sets, ext-getD, length-take-le, getD-take, getD-drop, getD-append-add}
 use Rattle.format.specs.Lists.{listed, anyOf, _over_}
 use Rattle.format.specs.Bits.{bitIn, numberOf, numberAt}
 use Rattle.format.specs.Layout.{bigEndian}
@@ -18,35 +17,18 @@ use Rattle.format.specs.declared.Head.{Head}
 use Rattle.laws.specs.Lists.{length-listed, getD-listed, length-map, map-at, any-none, either-left, either-right, length-over}
 use Rattle.laws.specs.First.{not-equal-false}
 use Rattle.laws.specs.Bits.{number-mid, bit-lt, octet}
-use Rattle.laws.specs.Stores.{octet-power, number-back}
-
--- ---- stores of some octets, octet by octet
-
-module _ {A : Type 0} (d : A) where
-  -- a store leaves what it does not reach
-  pub sets-other : (l : List A) (at : ℕ) (vs : List A) (i : ℕ) → ((k : ℕ) → k < length vs → at + k ≡ i → ⊥) → getD (sets l at vs) i d ≡ getD l i d
-  sets-other l at [] i h = refl
-  sets-other l at (v ∷ vs) i h =
-      sets-other (set l at v) (suc at) vs i (λ k m e. h (suc k) (omega arith) (omega arith))
-      ∙ getD-set-other l at i v d (λ e. h 0 (omega arith) (omega arith))
-
-  pub sets-there : (l : List A) (at : ℕ) (vs : List A) (k : ℕ) → k < length vs → at + length vs ≤ length l → getD (sets l at vs) (at + k) d ≡ getD vs k d
-  sets-there l at [] k h r = absurd (omega arith)
-  sets-there l at (v ∷ vs) zero h r =
-      rw (add-zero at) (sets-other (set l at v) (suc at) vs at (λ k m e. omega arith) ∙ getD-set-same l at v d (omega arith))
-  sets-there l at (v ∷ vs) (suc k) h r =
-      rw (add-suc at k, ← suc-add at k) (sets-there (set l at v) (suc at) vs k (omega arith) (rw (length-set l at v) (omega arith)))
+use Rattle.laws.specs.Stores.{sets-other, sets-there, octet-power, number-back}
 
 -- ---- rows that hold an octet
 
 module _ (r : Row) (octet : ℕ) where
-  pub holds-it : r .first ≤ octet → octet < r .first + r .size → holds r octet ≡ true
+  holds-it : r .first ≤ octet → octet < r .first + r .size → holds r octet ≡ true
   holds-it h l = rw (le-leb (r .first) octet h) (lt-ltb octet (r .first + r .size) l)
 
-  pub held-first : holds r octet ≡ true → r .first ≤ octet
+  held-first : holds r octet ≡ true → r .first ≤ octet
   held-first e = leb-true (r .first) octet (and-eq-true-iff (leb (r .first) octet) (ltb octet (r .first + r .size)) .0 e .0)
 
-  pub held-last : holds r octet ≡ true → octet < r .first + r .size
+  held-last : holds r octet ≡ true → octet < r .first + r .size
   held-last e = ltb-true octet (r .first + r .size) (and-eq-true-iff (leb (r .first) octet) (ltb octet (r .first + r .size)) .0 e .1)
 
 holders-behind : (r : Row) (rows : List Row) (octet : ℕ) → holders rows octet ≤ holders (r ∷ rows) octet
@@ -54,19 +36,19 @@ unfolding holders
 holders-behind r rows octet = omega arith
 
 -- a row that holds it is one of its holders
-pub held-some : (rows : List Row) (d : Row) (octet j : ℕ) → j < length rows → holds (getD rows j d) octet ≡ true → 1 ≤ holders rows octet
+held-some : (rows : List Row) (d : Row) (octet j : ℕ) → j < length rows → holds (getD rows j d) octet ≡ true → 1 ≤ holders rows octet
 unfolding holders
 held-some [] d octet j l h = absurd (omega arith)
 held-some (r ∷ rows) d octet zero l h = rw h (omega arith)
 held-some (r ∷ rows) d octet (suc j) l h = omega (arith, held-some rows d octet j (omega arith) h)
 
 -- and where there is a holder, a row holds it
-pub record Holder (rows : List Row) (d : Row) (octet : ℕ) : Type 0 where
+record Holder (rows : List Row) (d : Row) (octet : ℕ) : Type 0 where
   pub place : ℕ
   pub among : place < length rows
   pub it : holds (getD rows place d) octet ≡ true
 
-pub holder-of : (rows : List Row) (d : Row) (octet : ℕ) → 1 ≤ holders rows octet → Holder rows d octet
+holder-of : (rows : List Row) (d : Row) (octet : ℕ) → 1 ≤ holders rows octet → Holder rows d octet
 unfolding holders
 holder-of [] d octet h = absurd (omega arith)
 holder-of (r ∷ rows) d octet h = by-test (holds r octet) refl (λ h. holder-of rows d octet h)
@@ -125,7 +107,7 @@ outside zero size i low high k m c = low (omega arith) (omega arith)
 outside (suc first) size i low high k m c = high (omega arith) (omega arith)
 
 -- an octet that no row holds stays
-pub laid-other : (fields : List Field) (l : List ℕ) (i : ℕ) → holders (map rowOf fields) 0 ≡ 0 → holders (map rowOf fields) (suc i) ≡ 0
+laid-other : (fields : List Field) (l : List ℕ) (i : ℕ) → holders (map rowOf fields) 0 ≡ 0 → holders (map rowOf fields) (suc i) ≡ 0
     → getD (laid fields l) i 0 ≡ getD l i 0
 unfolding laid
 laid-other [] l i h e = refl
@@ -146,7 +128,7 @@ laid-other (f ∷ fields) l i h e =
         (not-first (f .row) rest 0 (omega (arith, h))) (not-first (f .row) rest (suc i) (omega (arith, e))) k m c
 
 -- the octets of a field that is laid and whose octets no later row holds
-pub laid-held : (fields : List Field) (d : Field) (l : List ℕ) (j i : ℕ) → holders (map rowOf fields) 0 ≡ 0
+laid-held : (fields : List Field) (d : Field) (l : List ℕ) (j i : ℕ) → holders (map rowOf fields) 0 ≡ 0
     → j < length fields → i < getD fields j d .row .size → holders (map rowOf fields) (getD fields j d .row .first + i) ≡ 1
     → getD fields j d .row .first - 1 + getD fields j d .row .size ≤ length l
     → getD (laid fields l) (getD fields j d .row .first - 1 + i) 0 ≡ octetOf (getD fields j d) i

@@ -5,9 +5,9 @@ use Prim.Native.Nat.{ℕ, zero, suc, _+_, _-_, _*_, _/_, _%_, _^_, _≤_, _<_}
 use native.Mathlib.Nat.{add-zero, add-suc, zero-add, suc-add, suc-mul, zero-mul, add-mul, sub-zero, sub-self, pow-zero, pow-suc, div-div-eq-div-mul, div-eq-of-lt, div-add-mod', div-one, mod-lt, zero-lt-suc}
 use native.Mathlib.Numerals.{add-one}
 use native.Mathlib.Omega.{arith}
-use lib.ListN.{length, getD, set, length-append, List·getD-append}
+use lib.ListN.{length, getD, set, length-set, length-append, List·getD-append}
 use lib.Pow.{pow-add}
-use lib.Seq.{sets, sets-eq, take-at, drop-at, drop-append-add, getD-append-add}
+use lib.Seq.{sets, sets-eq, getD-set-same, getD-set-other, take-at, drop-at, drop-append-add, getD-append-add}
 use Rattle.format.specs.Lists.{listed, wholeOnes, _over_}
 use Rattle.format.specs.Bits.{numberOf, numberAt}
 use Rattle.format.specs.Layout.{numberSize, numbersIn}
@@ -44,6 +44,22 @@ module _ {A : Type 0} where
       sets-eq new (before ++ (old ++ behind)) at (omega (arith, long, length-append old behind))
       ∙ rw (← e, take-at before (old ++ behind) (length before) refl, drop-append-add before (old ++ behind) (length new), drop-at old behind (length new) (sym h))
       (append-assoc before new behind)
+
+-- what stands where, after a store
+module _ {A : Type 0} (d : A) where
+  -- a store leaves what it does not reach
+  pub sets-other : (l : List A) (at : ℕ) (vs : List A) (i : ℕ) → ((k : ℕ) → k < length vs → at + k ≡ i → ⊥) → getD (sets l at vs) i d ≡ getD l i d
+  sets-other l at [] i h = refl
+  sets-other l at (v ∷ vs) i h =
+      sets-other (set l at v) (suc at) vs i (λ k m e. h (suc k) (omega arith) (omega arith))
+      ∙ getD-set-other l at i v d (λ e. h 0 (omega arith) (omega arith))
+
+  pub sets-there : (l : List A) (at : ℕ) (vs : List A) (k : ℕ) → k < length vs → at + length vs ≤ length l → getD (sets l at vs) (at + k) d ≡ getD vs k d
+  sets-there l at [] k h r = absurd (omega arith)
+  sets-there l at (v ∷ vs) zero h r =
+      rw (add-zero at) (sets-other (set l at v) (suc at) vs at (λ k m e. omega arith) ∙ getD-set-same l at v d (omega arith))
+  sets-there l at (v ∷ vs) (suc k) h r =
+      rw (add-suc at k, ← suc-add at k) (sets-there (set l at v) (suc at) vs k (omega arith) (rw (length-set l at v) (omega arith)))
 
 -- ---- things of one size, end to end
 

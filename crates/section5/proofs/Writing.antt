@@ -117,19 +117,19 @@ module _ (fields : List ℕ) {template count : ℕ} (c : Counted template count)
 -- ---- what writing answers
 
 module _ (fields lent : List ℕ) (template : ℕ) {large : Bool} (el : large ≡ anyOf tooLarge (lentFields fields template)) where
-  pub right-large : large ≡ true → left (stored.Refused Numbers) lent ≡ writtenBy template (numbersIn fields) lent
+  pub checked-large : large ≡ true → left (stored.Refused Numbers) lent ≡ writtenBy template (numbersIn fields) lent
   unfolding first writtenBy
-  right-large e = rw (← el, e)
+  checked-large e = rw (← el, e)
 
   module _ (fit : large ≡ false) {size : ℕ} (es : size ≡ sectionSize template) where
-    pub right-room : length lent < size → left (stored.Refused Room) lent ≡ writtenBy template (numbersIn fields) lent
+    pub checked-room : length lent < size → left (stored.Refused Room) lent ≡ writtenBy template (numbersIn fields) lent
     unfolding first writtenBy
-    right-room h = rw (← el, fit, ← es, lt-ltb (length lent) size h)
+    checked-room h = rw (← el, fit, ← es, lt-ltb (length lent) size h)
 
-    pub right-done : size ≤ length lent → {now : List ℕ} → now ≡ laid (lentFields fields template) lent
+    pub checked-done : size ≤ length lent → {now : List ℕ} → now ≡ laid (lentFields fields template) lent
         → left (stored.Span (record { 0 = size })) now ≡ writtenBy template (numbersIn fields) lent
     unfolding first writtenBy
-    right-done h e = rw (← el, fit, ← es, le-ltb (length lent) size h, e)
+    checked-done h e = rw (← el, fit, ← es, le-ltb (length lent) size h, e)
 
 abbrev pub writeWith : List ℕ → List ℕ → Head → Left Stored
 writeWith numbers lent head =

@@ -24,7 +24,7 @@ abbrev pub templateOfOctets : List ℕ → ℕ
 templateOfOctets section5 = headOf (fieldsIn table section5) .template
 
 -- "Reading what was written gives back every field": whatever numbers writing accepted, reading the octets that it left gives
--- those of the template's rows, wherever there is room for them
+-- those of the template's rows, wherever there is room for them (13 has passed, so that four octets hold each)
 abbrev pub FieldsBack : Type 0
 FieldsBack =
     (numbers lent section5 fields : List ℕ) (span : OctetPlace)

@@ -1,7 +1,7 @@
-// Section 5 of templates 5.2 and 5.3, read and written by one table.
+// Section 5 of templates 5.2 and 5.3, read and written by one table; and what it names for unpacking.
 ghost use mathlib.Core.Path.{_≡_};
 ghost use mathlib.Core.List.{_∷_, []};
-ghost use Prim.Native.Nat.{_+_, _-_, _*_, _<_, _≤_};
+ghost use Prim.Native.Nat.{_<_, _≤_};
 ghost use lib.ListN.{length, getD};
 ghost use Rattle.format.specs.Lists.{anyOf, wholeOnes};
 ghost use Rattle.format.specs.Layout.{numberSize, numbersIn};
@@ -90,7 +90,7 @@ fn numbers_in(section5: &[u8]) -> [u32; 22]
 
 // 14: "fewer octets are lent than the template has, the length is not the template's, the section number is not 5, or the
 // template is neither".
-fn is_wrong(lent: usize, asked: usize, head: Head) -> bool
+fn is_wrong_head(lent: usize, asked: usize, head: Head) -> bool
     ensures { λ r. ⌜ r ≡ wrongHead lent asked head ⌝ }
 {
     if lent < asked {
@@ -160,7 +160,7 @@ pub fn named(section5: &[u8]) -> Named
 {
     let numbers = numbers_in(section5);
     let head = head_of(numbers);
-    if is_wrong(section5.len(), section_size(head.template), head) {
+    if is_wrong_head(section5.len(), section_size(head.template), head) {
         return Named::Refused(Refusal::Section5);
     }
     let template = template_of(numbers);
@@ -176,7 +176,7 @@ pub fn read_section5(section5: &[u8], fields: &mut [u8]) -> Fetched
 {
     let numbers = numbers_in(section5);
     let head = head_of(numbers);
-    if is_wrong(section5.len(), section_size(head.template), head) {
+    if is_wrong_head(section5.len(), section_size(head.template), head) {
         return Fetched::Refused(Refusal::Section5);
     }
     let count = field_count(head.template);
@@ -235,7 +235,7 @@ fn write_fields(fields: &[u8], template: u32, section5: &mut [u8])
 }
 
 // What is left of writing once the head is right: 13, 10, then the octets.
-fn write_right(fields: &[u8], template: u32, section5: &mut [u8]) -> Stored
+fn write_checked(fields: &[u8], template: u32, section5: &mut [u8]) -> Stored
     requires { ⌜ fieldCount template ≤ wholeOnes numberSize (now fields) ⌝ }
     ensures { λ r. ⌜ left r (now (section5 .exit)) ≡ writtenBy template (numbersIn (now (fields .entry))) (now (section5 .entry)) ⌝ }
 {
@@ -264,8 +264,8 @@ pub fn write_section5(fields: &[u8], section5: &mut [u8]) -> Stored
         number: layout::number_in(fields, 1),
         template: layout::number_in(fields, 3),
     };
-    if is_wrong(count, field_count(head.template), head) {
+    if is_wrong_head(count, field_count(head.template), head) {
         return Stored::Refused(Refusal::Section5);
     }
-    write_right(fields, head.template, section5)
+    write_checked(fields, head.template, section5)
 }

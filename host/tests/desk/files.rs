@@ -19,8 +19,8 @@ fn files_that_are_no_map() {
     let own = |sentence: &str| (HOST, sentence.to_string());
     let with_behind = |octets: &[u8]| [octets, &[0]].concat();
     for (section5, section7, (status, sentence)) in [
-        (vec![], good7.clone(), refused("0 octets are too few for a Section 5")),
-        (good5[..10].to_vec(), good7.clone(), refused("10 octets are too few for a Section 5")),
+        (vec![], good7.clone(), refused("too few octets for a Section 5: 0")),
+        (good5[..10].to_vec(), good7.clone(), refused("too few octets for a Section 5: 10")),
         (good5[..46].to_vec(), good7.clone(), refused("Section 5 says that it has 47 octets, and 46 are there")),
         (good7.clone(), good5.clone(), refused("the section number is 7, and not 5")),
         (changed(&good5, 4, 7), good7.clone(), refused("the section number is 7, and not 5")),
@@ -53,8 +53,8 @@ fn files_that_are_no_map() {
             good7.clone(),
             own("map.s5: octets stand behind Section 5: it says that it has 47, and 48 are there"),
         ),
-        (good5.clone(), vec![], own("map.s7: 0 octets are too few for a Section 7")),
-        (good5.clone(), good7[..4].to_vec(), own("map.s7: 4 octets are too few for a Section 7")),
+        (good5.clone(), vec![], own("map.s7: too few octets for a Section 7: 0")),
+        (good5.clone(), good7[..4].to_vec(), own("map.s7: too few octets for a Section 7: 4")),
         (good5.clone(), good7[..7].to_vec(), own("map.s7: Section 7 says that it has 8 octets, and 7 are there")),
         (
             good5.clone(),

@@ -125,9 +125,9 @@ fn told(folder: &Path, words: &[&str], status: i32) -> String {
     sentence.into()
 }
 
-/// The sentence of refusal 14, with what was found.
+/// The sentence of refusal 14: which of its conditions holds.
 fn no_section5(name: &str, found: &str) -> String {
-    format!("{name}: {} ({found})", Refusal::Section5)
+    format!("{name}: refusal 14: {found}")
 }
 
 fn words(line: &str) -> Vec<&str> {

@@ -15,6 +15,6 @@ write-section5-spec =
     (λ c κs. search needs)
     (λ c κs. search needs)
     (λ c. search write-refused)
-    (λ c κs. search (head-enough, c .before .before .is-wrong .ensures, c .before .if2 .left))
+    (λ c κs. search (head-enough, c .before .before .is-wrong-head .ensures, c .before .if2 .left))
     (λ c. search needs)
     (λ c. search write-rest))

@@ -127,9 +127,8 @@ impl Topic {
             },
             Topic::Split => Text {
                 usage: "desk split FILE:N --to NAME",
-                what: &[
-                    "Writes Section 5 and Section 7 of a field of a GRIB2 file to NAME.s5 and NAME.s7, as they are.",
-                ],
+                what: &["Writes Section 5 and Section 7 of a field of a GRIB2 file, of template 5.2, 5.3 or 5.200, \
+                     to NAME.s5 and NAME.s7, as they are."],
                 example: "desk split gust.grib2:1 --to gust",
             },
             Topic::Day => Text {

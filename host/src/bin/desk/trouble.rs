@@ -68,6 +68,10 @@ impl Trouble {
     pub fn sentence(&self) -> Option<String> {
         match self {
             Trouble::Refused { what, refusal, found } if found.is_empty() => Some(format!("{what}: {refusal}")),
+            // Of 14's conditions the one that holds, in place of all of them.
+            Trouble::Refused { what, refusal: Refusal::Section5, found } => {
+                Some(format!("{what}: refusal {}: {found}", Refusal::Section5.number()))
+            }
             Trouble::Refused { what, refusal, found } => Some(format!("{what}: {refusal} ({found})")),
             Trouble::Own(_, sentence) => Some(sentence.clone()),
             Trouble::Output { error, .. } if error.kind() == io::ErrorKind::BrokenPipe => None,

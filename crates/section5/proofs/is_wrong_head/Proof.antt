@@ -1,12 +1,12 @@
--- `section5::is_wrong` meets its contract. Assumes nothing.
+-- `section5::is_wrong_head` meets its contract. Assumes nothing.
 use native.Mathlib.Omega.{arith}
 use borrow.Author.Needs.{needs}
 use Rattle.section5.proofs.Rows.{wrong-lent, wrong-length, wrong-number, right-complex, right-spatial}
-use Rattle.section5.proofs.is_wrong.Statement.{statement}
-use Rattle.section5.proofs.is_wrong.Tie as tie
+use Rattle.section5.proofs.is_wrong_head.Statement.{statement}
+use Rattle.section5.proofs.is_wrong_head.Tie as tie
 
-pub is-wrong-spec : {M : Type 1} → statement M
-is-wrong-spec =
+pub is-wrong-head-spec : {M : Type 1} → statement M
+is-wrong-head-spec =
     tie.close
     (tie.spec
     (λ c. wrong-lent _ _ _ (omega arith))
