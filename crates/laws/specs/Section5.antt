@@ -59,18 +59,18 @@ holder-of (r ∷ rows) d octet h = by-test (holds r octet) refl (λ h. holder-of
         let later = rest (omega (arith, rw e at h)) in
         record { place = suc (later .place); among = omega (arith, later .among); it = later .it }
 
--- the first row is no holder where there is none, nor where there is one behind it
-not-first : (r : Row) (rows : List Row) (octet : ℕ) → holders (r ∷ rows) octet ≤ holders rows octet → r .first ≤ octet → octet < r .first + r .size → ⊥
+-- a row that holds it adds one to its holders
+adds-holder : (r : Row) (rows : List Row) (octet : ℕ) → r .first ≤ octet → octet < r .first + r .size → holders (r ∷ rows) octet ≡ suc (holders rows octet)
 unfolding holders
-not-first r rows octet h a b = let e : 1 + holders rows octet ≤ holders rows octet = rw (holds-it r octet a b) at h in omega arith
+adds-holder r rows octet a b = rw (holds-it r octet a b) (omega arith)
 
-held-first-row : (r : Row) (rows : List Row) (octet : ℕ) → r .first ≤ octet → octet < r .first + r .size → holders (r ∷ rows) octet ≡ suc (holders rows octet)
-unfolding holders
-held-first-row r rows octet a b = rw (holds-it r octet a b) (omega arith)
+-- so that one which adds none does not hold it
+not-held : (r : Row) (rows : List Row) (octet : ℕ) → holders (r ∷ rows) octet ≤ holders rows octet → r .first ≤ octet → octet < r .first + r .size → ⊥
+not-held r rows octet h a b = omega (arith, adds-holder r rows octet a b)
 
 -- where octet 0 is not held, a row begins at 1 or later
 row-started : (r : Row) (rows : List Row) → holders (r ∷ rows) 0 ≡ 0 → 0 < r .size → 1 ≤ r .first
-row-started r rows h s = by-first (r .first) (not-first r rows 0 (omega (arith, h)))
+row-started r rows h s = by-first (r .first) (not-held r rows 0 (omega (arith, h)))
   where
     by-first : (first : ℕ) → (first ≤ 0 → 0 < first + r .size → ⊥) → 1 ≤ first
     by-first zero never = absurd (never (omega arith) (omega arith))
@@ -125,9 +125,9 @@ laid-other (f ∷ fields) l i h e =
     out : (k : ℕ) → k < f .row .size → f .row .first - 1 + k ≡ i → ⊥
     out k m c =
         outside (f .row .first) (f .row .size) i
-        (not-first (f .row) rest 0 (omega (arith, h))) (not-first (f .row) rest (suc i) (omega (arith, e))) k m c
+        (not-held (f .row) rest 0 (omega (arith, h))) (not-held (f .row) rest (suc i) (omega (arith, e))) k m c
 
--- the octets of a field that is laid and whose octets no later row holds
+-- an octet that one row alone holds is its field's
 laid-held : (fields : List Field) (d : Field) (l : List ℕ) (j i : ℕ) → holders (map rowOf fields) 0 ≡ 0
     → j < length fields → i < getD fields j d .row .size → holders (map rowOf fields) (getD fields j d .row .first + i) ≡ 1
     → getD fields j d .row .first - 1 + getD fields j d .row .size ≤ length l
@@ -140,7 +140,7 @@ laid-held (f ∷ fields) d l zero i h a b e r =
     let stored = bigEndian (f .row .size) (f .number) in
     let started = row-started (f .row) rest h (omega arith) in
     let place : suc (at + i) ≡ f .row .first + i = omega arith in
-    let alone : holders rest (suc (at + i)) ≡ 0 = rw place (omega (arith, e, held-first-row (f .row) rest (f .row .first + i) (omega arith) (omega arith))) in
+    let alone : holders rest (suc (at + i)) ≡ 0 = rw place (omega (arith, e, adds-holder (f .row) rest (f .row .first + i) (omega arith) (omega arith))) in
     laid-other fields (sets l at stored) (at + i) (omega (arith, h, holders-behind (f .row) rest 0)) alone
     ∙ sets-there 0 l at stored i (rw (stored-size f) b) (rw (stored-size f) r) ∙ getD-listed (f .row .size) (octetOf f) 0 i b
 laid-held (f ∷ fields) d l (suc j) i h a b e r =

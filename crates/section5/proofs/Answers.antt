@@ -20,7 +20,7 @@ use Rattle.format.specs.declared.Fetched.the-variants as fetched
 use Rattle.format.specs.declared.Named.{Named}
 use Rattle.format.specs.declared.Named.the-variants as named
 use Rattle.laws.specs.Lists.{take-map}
-use Rattle.section5.specs.Reading.{Counted, Numbers}
+use Rattle.section5.specs.Fields.{Counted, Numbers}
 
 -- the fields of the numbers that Section 5 holds are those that it holds
 fields-same : {section5 numbers : List ℕ} → Numbers section5 numbers → fieldsOf table numbers ≡ fieldsIn table section5

@@ -27,7 +27,7 @@ use Rattle.laws.specs.Bits.{number-lt, number-below, bit-lt}
 use Rattle.laws.specs.Stores.{octet-power, length-flat, number-listed}
 use Rattle.laws.specs.Groups.{four-each, number-read-back}
 use Rattle.laws.specs.Section5.{rowOf, length-laid, fields-back, octets-back, either-template, covered, rows-length, fields-few, Right, right-head, head-right}
-use Rattle.section5.specs.Reading.{writtenBy}
+use Rattle.section5.specs.Fields.{writtenBy}
 use Rattle.section5.specs.Claims.{templateOfNumbers, FieldsBack, OctetsBack, NumberOne}
 use Rattle.section5.proofs.Rows.{in-table}
 use Rattle.section5.proofs.Answers.{readWith, namedWith}

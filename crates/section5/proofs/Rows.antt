@@ -15,7 +15,7 @@ use Rattle.format.specs.declared.Row.{Row}
 use Rattle.format.specs.declared.Head.{Head}
 use Rattle.laws.specs.Lists.{any-none, grown}
 use Rattle.laws.specs.Bits.{number-lt, bit-lt}
-use Rattle.section5.specs.Reading.{InTable, Counted, Numbers}
+use Rattle.section5.specs.Fields.{InTable, Counted, Numbers}
 
 -- ---- rows
 

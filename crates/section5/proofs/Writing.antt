@@ -24,7 +24,7 @@ use Rattle.laws.specs.First.{first-joined}
 use Rattle.laws.specs.Stores.{octet-power, number-listed}
 use Rattle.laws.specs.Section5.{length-laid, laid-append, row-within, covered, rows-length, fields-some, right-head}
 use Rattle.section5.proofs.Rows.{in-table, wrong-lent, head-is}
-use Rattle.section5.specs.Reading.{InTable, Counted, lentField, Writable, writtenBy}
+use Rattle.section5.specs.Fields.{InTable, Counted, lentField, Writable, writtenBy}
 
 -- the fields of the numbers that are lent for a template
 abbrev pub lentFields : List ℕ → ℕ → List Field

@@ -7,7 +7,7 @@ ghost use Rattle.format.specs.Lists.{anyOf, wholeOnes};
 ghost use Rattle.format.specs.Layout.{numberSize, numbersIn};
 ghost use Rattle.format.specs.Refusals.{left};
 ghost use Rattle.format.specs.Section5.{row, table, sectionSize, fieldCount, rowsOf, fieldIn, fieldsOf, laid, headOf, templateOf, differencingOf, wrongHead, tooLarge, readSection5, writeSection5, namedBy};
-ghost use Rattle.section5.specs.Reading.{InTable, Counted, Numbers, Fitting, lentField, Writable, writtenBy};
+ghost use Rattle.section5.specs.Fields.{InTable, Counted, Numbers, Fitting, lentField, Writable, writtenBy};
 use format::BitPlace;
 use format::Differencing;
 use format::Fetched;
@@ -46,6 +46,7 @@ const ROWS: [Row; 22] = [
     Row { first: 49, size: 1 }, // 21: descriptor octets, in 5.3 alone
 ];
 
+// The row of field k. The promise says that the table is the definition's.
 fn row_at(k: usize) -> Row
     requires { ⌜ k < 22 ⌝ }
     ensures { λ r. ⌜ InTable k r ⌝ }
@@ -60,6 +61,7 @@ fn section_size(template: u32) -> usize
     if template == 3 { 49 } else { 47 }
 }
 
+// How many rows of the table are the template's.
 fn field_count(template: u32) -> usize
     ensures { λ r. ⌜ Counted template r ⌝ }
 {
@@ -108,6 +110,7 @@ fn is_wrong_head(lent: usize, asked: usize, head: Head) -> bool
     head.template != 3
 }
 
+// By their places in the table: section length, section number, template.
 fn head_of(numbers: [u32; 22]) -> Head
     ensures { λ r. ⌜ r ≡ headOf (fieldsOf table numbers) ⌝ }
 {
@@ -126,6 +129,8 @@ fn octet(number: u32) -> u8
     number as u8
 }
 
+// Number width, splitting method, missing management, groups; width reference and bits; length reference, increment, last
+// length, bits.
 fn template_of(numbers: [u32; 22]) -> Template
     requires { ⌜ Fitting numbers ⌝ }
     ensures { λ r. ⌜ r ≡ templateOf (fieldsOf table numbers) ⌝ }
@@ -144,6 +149,7 @@ fn template_of(numbers: [u32; 22]) -> Template
     )
 }
 
+// Order and descriptor octets, which 5.3 alone has.
 fn differencing_of(numbers: [u32; 22]) -> Differencing
     requires { ⌜ Fitting numbers ⌝ }
     ensures { λ r. ⌜ r ≡ differencingOf (fieldsOf table numbers) ⌝ }
