@@ -119,59 +119,29 @@ pub number-octet : (octets : List ℕ) (at k : ℕ) → getD octets (at + k) 0 <
 number-octet octets at k h =
     rw (add-mul k 1 8, number-add (bitIn 8 octets) (at * 8) (k * 8) 8, ← add-mul at k 8, octet octets (at + k) h)
 
--- five octets, each of them known
-pub number-five : (octets : List ℕ) (at : ℕ) {a b c d e r : ℕ}
-    → (a ≡ getD octets at 0) × (a < 256)
-    → (b ≡ getD octets (at + 1) 0) × (b < 256)
-    → (c ≡ getD octets (at + 2) 0) × (c < 256)
-    → (d ≡ getD octets (at + 3) 0) × (d < 256)
-    → (e ≡ getD octets (at + 4) 0) × (e < 256)
-    → r ≡ (((a * 256 + b) * 256 + c) * 256 + d) * 256 + e
-    → r ≡ numberOf (bitIn 8 octets) (at * 8) 40
-number-five octets at ha hb hc hd he hr =
-    omega (
-      arith,
-      octet octets at (omega arith),
-      number-octet octets at 1 (omega arith),
-      number-octet octets at 2 (omega arith),
-      number-octet octets at 3 (omega arith),
-      number-octet octets at 4 (omega arith),
-    )
+-- n octets from a place on, gathered into one number
+unfoldable pub gathered : List ℕ → ℕ → ℕ → ℕ
+gathered octets at zero = 0
+gathered octets at (suc n) = gathered octets at n * 256 + getD octets (at + n) 0
 
-pub number-there : (octets : List ℕ) (at : ℕ) → ((k : ℕ) → getD octets k 0 < 256) → {r : ℕ}
-    → r ≡ (((getD octets at 0 * 256 + getD octets (at + 1) 0) * 256 + getD octets (at + 2) 0) * 256 + getD octets (at + 3) 0) * 256 + getD octets (at + 4) 0
-    → r ≡ numberOf (bitIn 8 octets) (at * 8) 40
-number-there octets at h e = number-five octets at (refl, h at) (refl, h (at + 1)) (refl, h (at + 2)) (refl, h (at + 3)) (refl, h (at + 4)) e
+-- octets, as their type has them
+abbrev pub Octets : List ℕ → Type 0
+Octets octets = (k : ℕ) → getD octets k 0 < 256
 
--- four of them, and eight
-module _ (octets : List ℕ) (at : ℕ) (h : (k : ℕ) → getD octets k 0 < 256) where
-  pub number-four : {r : ℕ} → r ≡ ((getD octets at 0 * 256 + getD octets (at + 1) 0) * 256 + getD octets (at + 2) 0) * 256 + getD octets (at + 3) 0
-      → r ≡ numberOf (bitIn 8 octets) (at * 8) 32
-  number-four e = omega (arith, octet octets at (h at), number-octet octets at 1 (h (at + 1)), number-octet octets at 2 (h (at + 2)), number-octet octets at 3 (h (at + 3)))
+module _ (octets : List ℕ) (o : Octets octets) (at : ℕ) where
+  -- what is gathered is the number that all their bits make
+  pub gathered-bits : (n : ℕ) → gathered octets at n ≡ numberOf (bitIn 8 octets) (at * 8) (n * 8)
+  unfolding gathered numberOf
+  gathered-bits zero = refl
+  gathered-bits (suc n) = rw (gathered-bits n, ← add-one n) (number-octet octets at n (o (at + n)))
 
-  pub number-eight : {r : ℕ}
-      → r ≡ ((((((getD octets at 0 * 256 + getD octets (at + 1) 0) * 256 + getD octets (at + 2) 0) * 256 + getD octets (at + 3) 0) * 256 + getD octets (at + 4) 0) * 256 + getD octets (at + 5) 0) * 256 + getD octets (at + 6) 0) * 256 + getD octets (at + 7) 0
-      → r ≡ numberOf (bitIn 8 octets) (at * 8) 64
-  number-eight e =
-      omega (
-        arith,
-        octet octets at (h at),
-        number-octet octets at 1 (h (at + 1)),
-        number-octet octets at 2 (h (at + 2)),
-        number-octet octets at 3 (h (at + 3)),
-        number-octet octets at 4 (h (at + 4)),
-        number-octet octets at 5 (h (at + 5)),
-        number-octet octets at 6 (h (at + 6)),
-        number-octet octets at 7 (h (at + 7)),
-      )
-
--- a number that starts at bit s of n whole octets
-pub number-read : (octets : List ℕ) (at s w n : ℕ) → s + w ≤ n * 8
-    → numberOf (bitIn 8 octets) (at * 8) (n * 8) / 2 ^ (n * 8 - s - w) % 2 ^ w ≡ numberOf (bitIn 8 octets) (at * 8 + s) w
-number-read octets at s w n h =
-    let c : ℕ = n * 8 - s - w in
-    let e : n * 8 ≡ s + w + c = omega arith in
-    ap (λ (m : ℕ). numberOf (bitIn 8 octets) (at * 8) m / 2 ^ c % 2 ^ w) e ∙ number-mid (bit-lt 8 octets) (at * 8) s w c
+  -- "then shift once and take a remainder": any octets that cover the number give it, however many are gathered. It starts at
+  -- bit s of the first of them.
+  pub number-read : (n s w : ℕ) → s + w ≤ n * 8 → gathered octets at n / 2 ^ (n * 8 - s - w) % 2 ^ w ≡ numberOf (bitIn 8 octets) (at * 8 + s) w
+  number-read n s w h =
+      let c : ℕ = n * 8 - s - w in
+      let e : n * 8 ≡ s + w + c = omega arith in
+      rw (gathered-bits n) (ap (λ (m : ℕ). numberOf (bitIn 8 octets) (at * 8) m / 2 ^ c % 2 ^ w) e ∙ number-mid (bit-lt 8 octets) (at * 8) s w c)
 
 -- the bits of octets that are made of a source of bits are that source's
 pub bit-listed : {f : ℕ → ℕ} → Bits f → (n i : ℕ) → i < n * 8 → bitIn 8 (listed n (λ k. numberOf f (k * 8) 8)) i ≡ f i

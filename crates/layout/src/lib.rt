@@ -15,6 +15,7 @@ use format::LEVEL_SIZE;
 use format::Lengths;
 use format::NUMBER_SIZE;
 use format::NUMBERS_PER_GROUP;
+use format::OctetPlace;
 use format::POINT_SIZE;
 use format::Template;
 use format::Widths;
@@ -39,20 +40,6 @@ pub fn store_level(octets: &mut [u8], k: usize, level: u16)
     store(octets, k * LEVEL_SIZE, level as u64, LEVEL_SIZE);
 }
 
-// Four octets as one number, the last of them first: read in this order they become one load of the machine.
-fn four(d: u8, c: u8, b: u8, a: u8) -> u32
-    ensures { λ r. ⌜ r ≡ ((a * 256 + b) * 256 + c) * 256 + d ⌝ }
-{
-    (d as u32) + (c as u32) * 256 + (b as u32) * 65536 + (a as u32) * 16777216
-}
-
-fn four_at(octets: &[u8], at: usize) -> u32
-    requires { ⌜ at + numberSize ≤ length (now octets) ⌝ }
-    ensures { λ r. ⌜ r ≡ numberAt (now (octets .entry)) (at * 8) 32 ⌝ }
-{
-    four(octets[at + 3], octets[at + 2], octets[at + 1], octets[at])
-}
-
 // Number k of those that take four octets each.
 pub fn store_number(octets: &mut [u8], k: usize, number: u32)
     requires { ⌜ (k + 1) * numberSize ≤ length (now octets) ⌝ }
@@ -65,7 +52,7 @@ pub fn number_in(octets: &[u8], k: usize) -> u32
     requires { ⌜ (k + 1) * numberSize ≤ length (now octets) ⌝ }
     ensures { λ r. ⌜ r ≡ numberAt (now (octets .entry)) (k * 32) 32 ⌝ }
 {
-    four_at(octets, k * NUMBER_SIZE)
+    stream::read_four(octets, OctetPlace(k * NUMBER_SIZE))
 }
 
 // Numbers of four octets each.
@@ -169,7 +156,7 @@ pub fn packed_in(octets: &[u8], k: usize) -> u32
     requires { ⌜ (k + 1) * pointSize ≤ length (now octets) ⌝ }
     ensures { λ r. ⌜ r ≡ numberAt (now (octets .entry)) ((k * pointSize + 5) * 8) 32 ⌝ }
 {
-    four_at(octets, k * POINT_SIZE + 5)
+    stream::read_four(octets, OctetPlace(k * POINT_SIZE + 5))
 }
 
 // A template from all its numbers, in Section 5's order.

@@ -1,30 +1,46 @@
--- A number cut out of octets. Assumes nothing.
+-- A number read out of gathered octets. Assumes nothing.
 use mathlib.Core.Path.{_≡_, _∙_}
 use mathlib.Core.List.{List}
 use Prim.Native.Nat.{ℕ, _+_, _-_, _*_, _/_, _%_, _^_, _≤_}
+use native.Mathlib.Nat.{zero-add, add-zero, mod-lt, lt-of-lt-of-le}
 use native.Mathlib.Omega.{arith}
+use lib.Pow.{pow-pos, pow-mono}
+use lib.ListN.{getD}
 use mir.Val.{Fits}
 use mir.Syntax.{w32}
 use Rattle.format.specs.Bits.{numberAt}
-use Rattle.laws.specs.Bits.{number-below, bit-lt, number-read}
+use Rattle.laws.specs.Bits.{Octets, gathered, number-read}
 
--- out of five octets, from a bit of the first on
-module _ (octets : List ℕ) (octet bit width : ℕ) {five r : ℕ} (l : bit ≤ 7) (w : width ≤ 32) (e : five ≡ numberAt octets (octet * 8) 40) (er : r ≡ five / 2 ^ (40 - bit - width) % 2 ^ width) where
-  pub cut-of-five : r ≡ numberAt octets (octet * 8 + bit) width
-  cut-of-five = er ∙ rw e (number-read octets octet bit width 5 (omega arith))
+-- ---- octets, spelled out
 
-  pub cut-fits : Fits w32 r
-  cut-fits = record { fits = rw cut-of-five (number-below (bit-lt 8 octets) (octet * 8 + bit) width 32 w) }
+module _ (octets : List ℕ) (at : ℕ) where
+  abbrev four : ℕ
+  four = ((getD octets at 0 * 256 + getD octets (at + 1) 0) * 256 + getD octets (at + 2) 0) * 256 + getD octets (at + 3) 0
+
+  pub four-gathered : {r : ℕ} → r ≡ four → r ≡ gathered octets at 4
+  unfolding gathered
+  four-gathered e = simp (zero-add, add-zero) e
+
+  pub five-gathered : {r : ℕ} → r ≡ four * 256 + getD octets (at + 4) 0 → r ≡ gathered octets at 5
+  unfolding gathered
+  five-gathered e = simp (zero-add, add-zero) e
+
+  pub eight-gathered : {r : ℕ} → r ≡ (((four * 256 + getD octets (at + 4) 0) * 256 + getD octets (at + 5) 0) * 256 + getD octets (at + 6) 0) * 256 + getD octets (at + 7) 0 → r ≡ gathered octets at 8
+  unfolding gathered
+  eight-gathered e = simp (zero-add, add-zero) e
+
+-- ---- one shift and one remainder
+
+-- a remainder by at most 2 to the 32
+pub cut-fits : (x after width : ℕ) {r : ℕ} → width ≤ 32 → r ≡ x / 2 ^ after % 2 ^ width → Fits w32 r
+cut-fits x after width w e = record { fits = rw e (lt-of-lt-of-le (mod-lt (x / 2 ^ after) (pow-pos width)) (pow-mono w)) }
+
+-- out of as many octets as were gathered
+pub number-gathered : (octets : List ℕ) → Octets octets → (at count bit width : ℕ) {g r : ℕ} → bit + width ≤ count * 8
+    → g ≡ gathered octets at count → r ≡ g / 2 ^ (count * 8 - bit - width) % 2 ^ width → r ≡ numberAt octets (at * 8 + bit) width
+number-gathered octets o at count bit width h e er = er ∙ rw e (number-read octets o at count bit width h)
 
 -- a place is a bit of an octet
-module _ (octets : List ℕ) (place width : ℕ) {octet bit : ℕ} (eo : octet ≡ place / 8) (eb : (bit ≡ place % 8) × (bit ≤ 7)) where
-  pub number-placed : {r : ℕ} → r ≡ numberAt octets (octet * 8 + bit) width → r ≡ numberAt octets place width
-  number-placed e = let p : octet * 8 + bit ≡ place = omega arith in rw p at e
-
-  -- out of eight octets
-  module _ {eight r : ℕ} (w : width ≤ 32) (e : eight ≡ numberAt octets (octet * 8) 64) (er : r ≡ eight / 2 ^ (64 - bit - width) % 2 ^ width) where
-    pub cut-of-eight : r ≡ numberAt octets place width
-    cut-of-eight = number-placed (er ∙ rw e (number-read octets octet bit width 8 (omega arith)))
-
-    pub cut-of-eight-fits : Fits w32 r
-    cut-of-eight-fits = record { fits = rw cut-of-eight (number-below (bit-lt 8 octets) place width 32 w) }
+pub number-placed : (octets : List ℕ) (place width : ℕ) {octet bit r : ℕ} → octet ≡ place / 8 → (bit ≡ place % 8) × (bit ≤ 7)
+    → r ≡ numberAt octets (octet * 8 + bit) width → r ≡ numberAt octets place width
+number-placed octets place width {octet} {bit} eo eb e = let p : octet * 8 + bit ≡ place = omega arith in rw p at e

@@ -1,14 +1,12 @@
 -- `stream::read_there` meets its contract. Assumes nothing.
-use Rattle.stream.proofs.Numbers.{cut-of-eight, cut-of-eight-fits}
+use native.Mathlib.Omega.{arith}
+use Rattle.stream.proofs.Numbers.{number-gathered, number-placed}
 use borrow.Author.Needs.{needs}
 use Rattle.stream.proofs.read_there.Statement.{statement}
 use Rattle.stream.proofs.read_there.Tie as tie
 
-cast-result : tie.Need-cast-result
-cast-result c = search cut-of-eight-fits
-
 returns : tie.Need-returns
-returns c = search cut-of-eight
+returns c = number-placed _ _ _ (c .before .before .before .octet-of .ensures) (c .before .bit-in-octet .ensures) (number-gathered _ (λ k. omega (arith, c .before .before .before .before .shared-slice-known .given k)) _ 8 _ _ (omega arith) (c .before .before .eight-there .ensures) (c .read-gathered .ensures))
 
 pub read-there-spec : {M : Type 1} → statement M
 read-there-spec =
@@ -17,8 +15,5 @@ read-there-spec =
     (λ c κs. search needs)
     (λ c κs. search needs)
     (λ c κs. search needs)
-    (λ c. search needs)
-    (λ c. search needs)
     (λ c κs. search needs)
-    cast-result
     returns)

@@ -1,18 +1,18 @@
--- `stream::gathered` meets its contract. Assumes nothing.
-use Rattle.laws.specs.Bits.{number-five, number-there}
+-- `stream::five_from` meets its contract. Assumes nothing.
 use native.Mathlib.Omega.{arith}
+use Rattle.stream.proofs.Numbers.{five-gathered}
 use borrow.Author.Needs.{needs}
-use Rattle.stream.proofs.gathered.Statement.{statement}
-use Rattle.stream.proofs.gathered.Tie as tie
+use Rattle.stream.proofs.five_from.Statement.{statement}
+use Rattle.stream.proofs.five_from.Tie as tie
 
 returns : tie.Need-returns
-returns c = search number-five
+returns c = five-gathered _ _ (omega arith)
 
 returns-2 : tie.Need-returns-2
-returns-2 c = number-there _ _ (λ k. omega (arith, c .before .shared-slice-known6 .given k)) (c .five2 .ensures)
+returns-2 c = five-gathered _ _ (omega arith)
 
-pub gathered-spec : {M : Type 1} → statement M
-gathered-spec =
+pub five-from-spec : {M : Type 1} → statement M
+five-from-spec =
     tie.close
     (tie.spec
     (λ c. search needs)
