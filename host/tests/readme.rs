@@ -1,4 +1,5 @@
-//! The programs of the README, built and run as it says; the one in Rust is a documentation test (src/lib.rs).
+//! The programs of the README, built and run as it says; the one in Rust is a documentation test (src/lib.rs). And the worked
+//! number of docs/READING.md.
 
 use std::ffi::OsStr;
 use std::fs;
@@ -76,4 +77,13 @@ fn in_python() {
     if let Some(ran) = run(&folder, "python3", ["site.py"]) {
         hold(&ran, "0: last level 5\n");
     }
+}
+
+/// The page shows, whole and by itself, what the program `worked` writes; that it does write this is for the toolchain's check.
+#[test]
+fn the_worked_number() {
+    let page = include_str!("../../docs/READING.md");
+    let written = include_str!("../../crates/worked/stdout");
+    let shown: Vec<&str> = page.split("```text\n").skip(1).filter_map(|rest| rest.split("```").next()).collect();
+    assert_eq!(shown, [written]);
 }
