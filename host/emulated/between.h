@@ -38,10 +38,10 @@
 #define NUMBER_OF(name) CALL_##name,
 enum call { EVERY_CALL(NUMBER_OF) CALLS };
 
-/* How many words a call may take: a slice is two, any other argument one. The first argument that is none ends them. */
+/* How many words a call may take: a slice is two, any other argument one. */
 #define MOST_WORDS 24
 
-enum kind { NONE, NUMBER, READ, LENT, PLACE };
+enum kind { NUMBER, READ, LENT, PLACE };
 
 struct argument {
     uint64_t kind;
@@ -51,9 +51,13 @@ struct argument {
     uint8_t *octets;
 };
 
-/* After it come the octets of every slice and place, those to be written to as well: what they hold may stay. */
+/*
+ * As many arguments as it says go over, and after them the octets of every slice and place, those to be written to as
+ * well: what they hold may stay.
+ */
 struct request {
-    uint64_t call;
+    uint32_t call;
+    uint32_t count;
     struct argument argument[MOST_WORDS];
 };
 
@@ -64,7 +68,7 @@ struct answer {
     uint32_t number;
     uint32_t fault;
     /* Which argument the fault is in, from 0 on. */
-    uint64_t argument;
+    uint32_t argument;
 };
 
 #endif

@@ -9,13 +9,14 @@
 
 #include <errno.h>
 #include <fcntl.h>
+#include <poll.h>
 #include <sched.h>
+#include <signal.h>
 #include <stdatomic.h>
 #include <stdio.h>
 #include <stdlib.h>
 #include <string.h>
 #include <sys/mman.h>
-#include <sys/socket.h>
 #include <sys/uio.h>
 #include <sys/wait.h>
 #include <unistd.h>
@@ -33,12 +34,15 @@ static const char *const names[CALLS] = {EVERY_CALL(NAME)};
 
 #define STOP(...) (dprintf(STDERR_FILENO, "cleatmow: " __VA_ARGS__), abort())
 
-/* An emulated process: who uses it now, 0 for nobody; who started it, 0 for nobody yet. Both are process ids. */
+/*
+ * An emulated process: who uses it now, and who started it, as process ids, 0 for nobody. The host keeps the end of the
+ * requests that the process reads, too: so a write after the end of the process raises no signal.
+ */
 static struct emulated {
     _Atomic pid_t user;
     pid_t starter;
     pid_t process;
-    int socket;
+    int requests, requests_end, answers;
 } places[64];
 
 static int is_the_program(int file) {
@@ -68,12 +72,14 @@ static int program_file(void) {
     return file;
 }
 
-/* In the forked process: the program becomes descriptor 3, and the socket its standard input and output. */
-static _Noreturn void become(int socket, int file) {
+/* In the forked process: the pipes become its standard input and output, and the program descriptor 3. */
+static _Noreturn void become(int requests, int answers, int file) {
     char *const words[] = {EMULATOR_NAME, "/proc/self/fd/3", NULL};
-    socket = fcntl(socket, F_DUPFD_CLOEXEC, 4);
+    requests = fcntl(requests, F_DUPFD_CLOEXEC, 4);
+    answers = fcntl(answers, F_DUPFD_CLOEXEC, 4);
     file = fcntl(file, F_DUPFD_CLOEXEC, 4);
-    if (dup2(socket, 0) == 0 && dup2(socket, 1) == 1 && dup2(file, 3) == 3) {
+    if (dup2(requests, 0) == 0 && dup2(answers, 1) == 1 && dup2(file, 3) == 3) {
+        signal(SIGPIPE, SIG_IGN);
         execvp(EMULATOR, words);
         execvp(EMULATOR_NAME, words);
     }
@@ -81,16 +87,25 @@ static _Noreturn void become(int socket, int file) {
 }
 
 static void start(struct emulated *emulated) {
-    int sockets[2];
+    int requests[2], answers[2];
     const int file = program_file();
-    if (socketpair(AF_UNIX, SOCK_STREAM | SOCK_CLOEXEC, 0, sockets) != 0) STOP("no socket: %s\n", strerror(errno));
+    if (pipe2(requests, O_CLOEXEC) != 0 || pipe2(answers, O_CLOEXEC) != 0
+        || fcntl(requests[1], F_SETFL, O_NONBLOCK) != 0) STOP("no pipe to the emulator: %s\n", strerror(errno));
     emulated->process = fork();
     if (emulated->process < 0) STOP("no process for the emulator: %s\n", strerror(errno));
-    if (emulated->process == 0) become(sockets[1], file);
-    close(sockets[1]);
+    if (emulated->process == 0) become(requests[0], answers[1], file);
+    close(answers[1]);
     close(file);
-    emulated->socket = sockets[0];
+    emulated->requests = requests[1];
+    emulated->requests_end = requests[0];
+    emulated->answers = answers[0];
     emulated->starter = getpid();
+}
+
+static void leave(const struct emulated *emulated) {
+    close(emulated->requests);
+    close(emulated->requests_end);
+    close(emulated->answers);
 }
 
 /* One that nobody uses. What a process had before it forked is the other's: its child starts its own. */
@@ -101,7 +116,7 @@ static struct emulated *taken(void) {
         pid_t user = atomic_load(&emulated->user);
         if (user != self && atomic_compare_exchange_strong(&emulated->user, &user, self)) {
             if (emulated->starter == self) return emulated;
-            if (emulated->starter != 0) close(emulated->socket);
+            if (emulated->starter != 0) leave(emulated);
             start(emulated);
             return emulated;
         }
@@ -109,13 +124,13 @@ static struct emulated *taken(void) {
     }
 }
 
-/* An orderly end leaves no process behind. Those that are still used end when their socket does. */
+/* An orderly end leaves no process behind. One that is still used ends when its pipes do. */
 __attribute__((destructor)) static void end_all(void) {
     const pid_t self = getpid();
     for (size_t i = 0; i < sizeof places / sizeof *places; i++) {
         pid_t nobody = 0;
         if (places[i].starter != self || !atomic_compare_exchange_strong(&places[i].user, &nobody, self)) continue;
-        close(places[i].socket);
+        leave(&places[i]);
         waitpid(places[i].process, NULL, 0);
     }
 }
@@ -131,14 +146,20 @@ static _Noreturn void stopped(const struct emulated *emulated, const char *name,
     STOP("%s needs " EMULATOR_NAME ", which is neither at " EMULATOR " nor on the PATH\n", name);
 }
 
+/* Waits for room in the pipe of the requests. A process that says something before it was asked, or ends, has none. */
+static int has_room(const struct emulated *emulated) {
+    struct pollfd ends[] = {{emulated->requests, POLLOUT, 0}, {emulated->answers, POLLIN, 0}};
+    return (poll(ends, 2, -1) >= 0 || errno == EINTR) && ends[1].revents == 0;
+}
+
 enum direction { SEND, RECEIVE };
 
-/* Carries all parts, of which the first is not empty, and no other. */
-static int carry(int socket, enum direction direction, struct iovec *part, size_t parts) {
+/* Carries all parts. None is empty. */
+static int carry(const struct emulated *emulated, enum direction direction, struct iovec *part, int parts) {
     while (parts > 0) {
-        struct msghdr message = {.msg_iov = part, .msg_iovlen = parts};
-        ssize_t count = direction == SEND ? sendmsg(socket, &message, MSG_NOSIGNAL) : recvmsg(socket, &message, 0);
-        if (count < 0 && errno == EINTR) continue;
+        ssize_t count = direction == SEND ? writev(emulated->requests, part, parts)
+            : readv(emulated->answers, part, parts);
+        if (count < 0 && (errno == EINTR || (errno == EAGAIN && has_room(emulated)))) continue;
         if (count <= 0) return 0;
         for (; parts > 0 && (size_t)count >= part->iov_len; part++, parts--) count -= (ssize_t)part->iov_len;
         if (parts > 0) *part = (struct iovec){(uint8_t *)part->iov_base + count, part->iov_len - (size_t)count};
@@ -146,11 +167,12 @@ static int carry(int socket, enum direction direction, struct iovec *part, size_
     return 1;
 }
 
-/* The head, and the octets of the arguments from a kind on. */
-static size_t listed(struct iovec *parts, void *head, size_t head_len, const struct request *request, enum kind from) {
-    size_t count = 1;
-    parts[0] = (struct iovec){head, head_len};
-    for (const struct argument *argument = request->argument; argument < request->argument + MOST_WORDS; argument++) {
+/* Lists a head, and after it the octets of all arguments of a kind or of a later one. */
+static int listed(struct iovec *parts, void *head, size_t len, const struct request *request, enum kind from) {
+    int count = 1;
+    parts[0] = (struct iovec){head, len};
+    for (uint32_t i = 0; i < request->count; i++) {
+        const struct argument *argument = &request->argument[i];
         if (argument->kind < from || argument->value == 0) continue;
         parts[count++] = (struct iovec){argument->octets, argument->value};
     }
@@ -161,10 +183,11 @@ static uint32_t carried(struct request *request) {
     struct iovec parts[1 + MOST_WORDS];
     struct answer answer = {0, NO_FAULT, 0};
     struct emulated *emulated = taken();
-    size_t count = listed(parts, request, sizeof *request, request, READ);
-    int whole = carry(emulated->socket, SEND, parts, count);
+    const size_t len = offsetof(struct request, argument) + request->count * sizeof *request->argument;
+    int count = listed(parts, request, len, request, READ);
+    int whole = carry(emulated, SEND, parts, count);
     count = listed(parts, &answer, sizeof answer, request, LENT);
-    whole = whole && carry(emulated->socket, RECEIVE, parts, count);
+    whole = whole && carry(emulated, RECEIVE, parts, count);
     if (!whole || answer.fault != NO_FAULT) stopped(emulated, names[request->call], &answer);
     atomic_store(&emulated->user, 0);
     return answer.number;
@@ -180,14 +203,15 @@ static uint32_t carried(struct request *request) {
 #define LENT_ARGUMENT(name) {LENT, name##_len, name}
 #define PLACE_ARGUMENT(type, name) {PLACE, sizeof *name, (uint8_t *)name}
 
-#define ONE_WORD(type, name) 1
-#define TWO_WORDS(name) 1, 1
+#define ONE(...) 1
+#define TWO(...) 1, 1
+#define COUNT(...) sizeof (char[]){__VA_ARGS__}
 
 #define CARRIED(name) \
-    _Static_assert(sizeof (char[]){name##_TAKES(ONE_WORD, TWO_WORDS, TWO_WORDS, ONE_WORD)} <= MOST_WORDS, #name); \
+    _Static_assert(COUNT(name##_TAKES(ONE, TWO, TWO, ONE)) <= MOST_WORDS, #name); \
     uint32_t cleatmow_##name( \
         name##_TAKES(NUMBER_PARAMETER, READ_PARAMETER, LENT_PARAMETER, PLACE_PARAMETER)) { \
-        struct request request = {CALL_##name, { \
+        struct request request = {CALL_##name, COUNT(name##_TAKES(ONE, ONE, ONE, ONE)), { \
             name##_TAKES(NUMBER_ARGUMENT, READ_ARGUMENT, LENT_ARGUMENT, PLACE_ARGUMENT)}}; \
         return carried(&request); \
     }

@@ -1,7 +1,7 @@
 /*
  * The x86-64 side of an emulated call: a program that has the archive, and no C library, so that nothing in it can
- * allocate behind its back. It reads requests from its standard input and answers them on its standard output, one
- * socket, until that is closed.
+ * allocate behind its back. It reads requests from its standard input and answers them on its standard output, until there
+ * are no more.
  *
  * Every slice stands in a room of its own between two pages that cannot be touched. At every other call it begins where
  * the room begins, else it ends where the room ends; on its other side are guard octets.
@@ -14,11 +14,10 @@ typedef __UINT64_TYPE__ uint64_t;
 #include "between.h"
 
 #define PAGE 4096
-#define GUARD 64
 
 /* Of Linux on x86-64. */
-enum { SYSTEM_READ = 0, SYSTEM_MMAP = 9, SYSTEM_MPROTECT = 10, SYSTEM_MUNMAP = 11, SYSTEM_SENDTO = 44, SYSTEM_EXIT = 60 };
-enum { PROTECT_NONE = 0, PROTECT_READ_WRITE = 3, MAP_PRIVATE_ANONYMOUS = 0x22, NO_SIGNAL = 0x4000, INTERRUPTED = -4 };
+enum { SYSTEM_READ = 0, SYSTEM_WRITE = 1, SYSTEM_MMAP = 9, SYSTEM_MPROTECT = 10, SYSTEM_MUNMAP = 11, SYSTEM_EXIT = 60 };
+enum { PROTECT_NONE = 0, PROTECT_READ_WRITE = 3, MAP_PRIVATE_ANONYMOUS = 0x22, INTERRUPTED = -4 };
 
 /* Exit statuses: there is no more to do; a fault is told; the system gives no memory; the other side is gone. */
 enum { DONE = 0, FAULTY = 1, NO_MEMORY = 2, CUT_OFF = 3 };
@@ -51,7 +50,7 @@ static int same(const uint8_t *one, const uint8_t *other, uint64_t len) {
     return differ == 0;
 }
 
-/* What is read or to be sent, so that a small call takes one reading and one sending. */
+/* What is read or to be written, so that a small call takes one reading and one writing. */
 struct held {
     uint64_t from, to;
     uint8_t octets[65536];
@@ -75,9 +74,9 @@ static void take(void *place, uint64_t len) {
     while (ready < len) ready += read_some(to + ready, len - ready, CUT_OFF);
 }
 
-static void send_all(const uint8_t *from, uint64_t len) {
+static void write_all(const uint8_t *from, uint64_t len) {
     while (len > 0) {
-        const long count = ask(SYSTEM_SENDTO, 1, (uint64_t)from, len, NO_SIGNAL, 0, 0);
+        const long count = ask(SYSTEM_WRITE, 1, (uint64_t)from, len, 0, 0, 0);
         if (count == INTERRUPTED) continue;
         if (count <= 0) end(CUT_OFF);
         from += count;
@@ -86,23 +85,29 @@ static void send_all(const uint8_t *from, uint64_t len) {
 }
 
 static void flush(void) {
-    send_all(out.octets, out.to);
+    write_all(out.octets, out.to);
     out.to = 0;
 }
 
 static void give(const void *from, uint64_t len) {
     if (len > sizeof out.octets - out.to) flush();
     if (len > sizeof out.octets) {
-        send_all(from, len);
+        write_all(from, len);
     } else {
         memcpy(out.octets + out.to, from, len);
         out.to += len;
     }
 }
 
+/* The guard octets, by words: emulated, single octets take their time. */
+#define GUARD_WORDS 8
+#define GUARD (8 * GUARD_WORDS)
+typedef uint64_t __attribute__((aligned(1), may_alias)) word;
+
 /* A room for each argument, its guard octets, and a copy of what is read. */
 static struct room {
-    uint8_t *start, *guard, *copy;
+    uint8_t *start, *copy;
+    word *guard;
     uint64_t size;
 } rooms[MOST_WORDS];
 
@@ -115,27 +120,24 @@ static void enlarge(struct room *room, uint64_t size) {
     if (ask(SYSTEM_MPROTECT, (uint64_t)room->start, room->size, PROTECT_READ_WRITE, 0, 0, 0) != 0) end(NO_MEMORY);
 }
 
-/* Changes with every call, so that what depends on octets outside does not stay the same. */
-static uint8_t turn;
-
-static uint8_t guard_octet(uint64_t place) {
-    return (uint8_t)(place * 37) ^ turn;
-}
+/* The guard changes with every call, so that what depends on octets outside does not stay the same. */
+static uint64_t guard_word = 0x25007B5691AC6700;
+static int at_start;
 
 static void lay(struct argument *argument, struct room *room) {
     const uint64_t len = argument->value, needed = 2 * len + GUARD;
     if (room->size < needed) enlarge(room, 2 * needed);
-    argument->octets = turn ? room->start : room->start + room->size - len;
-    room->guard = turn ? argument->octets + len : argument->octets - GUARD;
-    room->copy = turn ? room->guard + GUARD : room->guard - len;
-    for (uint64_t i = 0; i < GUARD; i++) room->guard[i] = guard_octet(i);
+    argument->octets = at_start ? room->start : room->start + room->size - len;
+    room->guard = (word *)(at_start ? argument->octets + len : argument->octets - GUARD);
+    room->copy = at_start ? argument->octets + len + GUARD : argument->octets - GUARD - len;
+    for (int i = 0; i < GUARD_WORDS; i++) room->guard[i] = guard_word;
     take(argument->octets, len);
     if (argument->kind == READ) memcpy(room->copy, argument->octets, len);
 }
 
 static enum fault fault_in(const struct argument *argument, const struct room *room) {
-    for (uint64_t i = 0; i < GUARD; i++) {
-        if (room->guard[i] != guard_octet(i)) return WRITTEN_OUTSIDE;
+    for (int i = 0; i < GUARD_WORDS; i++) {
+        if (room->guard[i] != guard_word) return WRITTEN_OUTSIDE;
     }
     if (argument->kind == READ && !same(room->copy, argument->octets, argument->value)) return READ_CHANGED;
     return NO_FAULT;
@@ -143,7 +145,7 @@ static enum fault fault_in(const struct argument *argument, const struct room *r
 
 /* A pointer to no octets is handed over as the caller has it. */
 static int has_octets(const struct argument *argument) {
-    return argument->kind >= READ && argument->value > 0;
+    return argument->kind != NUMBER && argument->value > 0;
 }
 
 /*
@@ -160,7 +162,7 @@ static function *const functions[CALLS] = {EVERY_CALL(ADDRESS)};
 static uint32_t called(const struct request *request) {
     uint64_t w[MOST_WORDS] = {0};
     int count = 0;
-    for (int i = 0; i < MOST_WORDS && request->argument[i].kind != NONE; i++) {
+    for (uint32_t i = 0; i < request->count; i++) {
         const struct argument *argument = &request->argument[i];
         if (argument->kind != NUMBER) w[count++] = (uint64_t)argument->octets;
         if (argument->kind != PLACE) w[count++] = argument->value;
@@ -172,21 +174,22 @@ static uint32_t called(const struct request *request) {
 static void serve(struct request *request) {
     struct answer answer = {0, NO_FAULT, 0};
     struct argument *const all = request->argument;
-    for (int i = 0; i < MOST_WORDS; i++) {
+    for (uint32_t i = 0; i < request->count; i++) {
         if (has_octets(&all[i])) lay(&all[i], &rooms[i]);
     }
     answer.number = called(request);
-    for (uint32_t i = 0; i < MOST_WORDS && answer.fault == NO_FAULT; i++) {
+    for (uint32_t i = 0; i < request->count && answer.fault == NO_FAULT; i++) {
         answer.argument = i;
         if (has_octets(&all[i])) answer.fault = fault_in(&all[i], &rooms[i]);
     }
     give(&answer, sizeof answer);
-    for (int i = 0; i < MOST_WORDS && answer.fault == NO_FAULT; i++) {
+    for (uint32_t i = 0; i < request->count && answer.fault == NO_FAULT; i++) {
         if (has_octets(&all[i]) && all[i].kind != READ) give(all[i].octets, all[i].value);
     }
     flush();
     if (answer.fault != NO_FAULT) end(FAULTY);
-    turn = (uint8_t)~turn;
+    guard_word = ~guard_word;
+    at_start = !at_start;
 }
 
 _Noreturn void serve_all(void) {
@@ -194,7 +197,8 @@ _Noreturn void serve_all(void) {
     for (;;) {
         in.from = 0;
         in.to = read_some(in.octets, sizeof in.octets, DONE);
-        take(&request, sizeof request);
+        take(&request, __builtin_offsetof(struct request, argument));
+        take(request.argument, request.count * sizeof *request.argument);
         serve(&request);
     }
 }
