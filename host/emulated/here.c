@@ -1,7 +1,8 @@
 /*
  * The calls of include/cleatmow.h on a machine that is no x86-64: each is carried to an x86-64 process under an emulator,
  * which has the archive (there.c), and its answer is brought back. Nothing is allocated. What cannot be carried, or comes
- * back with a fault, ends the host with one sentence: it never looks like an answer.
+ * back with a fault, ends the host with one sentence: it never looks like an answer. The process is a child of the host,
+ * and ends with it; a host that waits for just any child waits for this one too.
  */
 #define _GNU_SOURCE
 #include "cleatmow.h"
