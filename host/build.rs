@@ -1,8 +1,8 @@
 //! Makes libcleatmow.a by `rt staticlib cleatmow` in the repository's top folder, and links it.
 //! CLEATMOW_ARCHIVE_DIR names a folder that has the archive already, seen from host/; then nothing is made.
 //!
-//! The archive is x86-64 code. On a Linux that is no x86-64, one with the same calls is linked instead, which carries each
-//! call to an x86-64 process under an emulator; that one has the archive (emulated/).
+//! The archive is x86-64 code. On a Linux that is no x86-64, one with the same calls is linked instead, which carries
+//! each call to an x86-64 process under an emulator; that process has the archive (emulated/).
 
 use std::path::{Path, PathBuf};
 use std::process::{exit, Command, Output};

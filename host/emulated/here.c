@@ -1,8 +1,8 @@
 /*
- * The calls of include/cleatmow.h on a machine that is no x86-64: each is carried to an x86-64 process under an emulator,
- * which has the archive (there.c), and its answer is brought back. Nothing is allocated. What cannot be carried, or comes
- * back with a fault, ends the host with one sentence: it never looks like an answer. The process is a child of the host,
- * and ends with it; a host that waits for just any child waits for this one too.
+ * The calls of include/cleatmow.h on a machine that is no x86-64: each is carried to an x86-64 process under an
+ * emulator, which has the archive (there.c), and its answer is brought back. Nothing is allocated. What cannot be
+ * carried, or comes back with a fault, ends the host with one sentence: it never looks like an answer. The process is a
+ * child of the host, and ends with it; a host that waits for just any child waits for this one too.
  */
 #define _GNU_SOURCE
 #include "cleatmow.h"
@@ -57,7 +57,7 @@ static int is_the_program(int file) {
     return count == 0 && place == the_program_end;
 }
 
-/* A file that holds the program: the one of the build if it still does, which works where files may not grow, or a new one. */
+/* A file that holds the program: the build's own if it still does, which works where no file may grow, or a new one. */
 static int program_file(void) {
     const uint8_t *place = the_program;
     int file = open(PROGRAM, O_RDONLY | O_CLOEXEC);

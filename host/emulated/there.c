@@ -1,7 +1,6 @@
 /*
  * The x86-64 side of an emulated call: a program that has the archive, and no C library, so that nothing in it can
- * allocate behind its back. It reads requests from its standard input and answers them on its standard output, until there
- * are no more.
+ * allocate. It reads requests from its standard input and answers them on its standard output, until there are no more.
  *
  * Every slice stands in a room of its own between two pages that cannot be touched. At every other call it begins where
  * the room begins, else it ends where the room ends; on its other side are guard octets.
@@ -149,8 +148,8 @@ static int has_octets(const struct argument *argument) {
 }
 
 /*
- * A call with as many words as any takes. Numbers and pointers go into registers and then onto the stack, in order, and a
- * function does not see what it does not take.
+ * A call with as many words as any takes. Numbers and pointers go into registers and then onto the stack, in order, and
+ * a function does not see what it does not take.
  */
 #define SIX(w) w, w, w, w, w, w
 typedef uint32_t function(SIX(uint64_t), SIX(uint64_t), SIX(uint64_t), SIX(uint64_t));
