@@ -5,6 +5,11 @@
 set -eu
 cd "$(dirname "$0")"
 
+if [ "$(uname -m)" != x86_64 ]; then
+    echo "Not run: ours is x86-64 code, and under an emulator neither its times nor its instructions mean anything."
+    exit 0
+fi
+
 # Each operation of the program, and what it calls: with cleatmow_ before it the C call, with rust_ the oracle's function.
 OPERATIONS="run_length:run_length unpack_complex:unpack_complex
     unpack_spatial_1:unpack_spatial unpack_spatial_2:unpack_spatial
