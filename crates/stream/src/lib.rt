@@ -14,7 +14,8 @@ use format::Refusal;
 
 // Document 02, No. 2: "Gather the octets that a number touches, at most five, into one 64-bit number, then shift once and take a
 // remainder." Every number that is read out of octets is read here. It has `width` bits, from bit `bit` of the first of `count`
-// gathered octets on; those gathered that it does not touch do not matter (specs/Claims.antt).
+// gathered octets on: `cut` shifts once, past the bits behind it, and takes one remainder. Octets that were gathered and that it
+// does not touch do not matter (specs/Claims.antt).
 pub fn read_gathered(gathered: u64, count: usize, bit: usize, width: usize) -> u32
     requires { ⌜ (count ≤ 8) × (bit + width ≤ count * 8) × (count * 8 < 64 + bit + width) × (width ≤ 32) ⌝ }
     ensures { λ r. ⌜ r ≡ gathered / 2 ^ (count * 8 - bit - width) % 2 ^ width ⌝ }
