@@ -1,5 +1,5 @@
 //! The archive linked by C and by C++ through include/cleatmow.h, and the header without a warning under two standards
-//! of each.
+//! of each; and the header's calls in the list of those that are emulated where the machine is no x86-64.
 
 use std::ffi::OsStr;
 use std::io::{stderr, ErrorKind, Write};
@@ -91,4 +91,18 @@ fn from_c() {
 #[test]
 fn from_cpp() {
     call_from("c++", "c++", ["c++11", "c++17"]);
+}
+
+/// What stands behind each of these words, as far as the first bracket that opens or closes.
+fn behind<'a>(text: &'a str, word: &str) -> Vec<&'a str> {
+    text.split(word).skip(1).filter_map(|rest| rest.split(['(', ')']).next()).collect()
+}
+
+/// On any machine: one that is x86-64 builds nothing of that list, and would not miss a call there.
+#[test]
+fn every_call_is_emulated() {
+    let declared = behind(include_str!("../../include/cleatmow.h"), "\nuint32_t cleatmow_");
+    let carried = behind(include_str!("../emulated/between.h"), "\n    call(");
+    assert!(!declared.is_empty());
+    assert_eq!(declared, carried);
 }
