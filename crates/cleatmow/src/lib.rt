@@ -37,6 +37,7 @@ pub fn refusal_number(refusal: Refusal) -> u32
         Refusal::Beyond => 12,
         Refusal::Numbers => 13,
         Refusal::Section5 => 14,
+        Refusal::Place => 15,
     }
 }
 

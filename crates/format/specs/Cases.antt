@@ -2,7 +2,7 @@
 use Prim.Native.Nat.{ℕ, _+_}
 use mathlib.Core.Path.{_≡_, refl}
 use mathlib.Core.List.{List, [], _∷_, flatMap}
-use Rattle.format.specs.Seen.{Case, _shows_, AllHold, lent, refused, numbers, spanned, number, points, levels, group, packs, reading, template, unpacking, restoring, readingSection5, writingSection5, unpackingSection5, unrolling, packing}
+use Rattle.format.specs.Seen.{Case, _shows_, AllHold, lent, refused, numbers, spanned, number, points, point, levels, group, packs, reading, template, unpacking, restoring, readingSection5, writingSection5, unpackingSection5, picking, pickingSection5, unrolling, packing}
 use Rattle.format.specs.Lists.{listed, total, joined, anyOf, greatest, least}
 use Rattle.format.specs.Refusals.{first}
 use Rattle.format.specs.Bits.{bitIn, numberOf, spanOf, readField, writeField}
@@ -13,6 +13,7 @@ use Rattle.format.specs.RunLength.{levelsOf, repeatsFirst, levelsIn, run
 use Rattle.format.specs.Grouping.{digitsIn, bits, widthOf, endsBefore, groupsFrom, groupsOf, recordsFrom}
 use Rattle.format.specs.Packing.{summarySize, widthCoding, gcdIn, gcd, gcdFrom, divisorUpTo, incrementOf, butLast, lengthCoding, templateOf, lengthCodes, valueString, payloadOf, packingOf, packBy}
 use Rattle.format.specs.Section5.{table, sectionSize, fieldCount, laid, at, wrongHead, readSection5, writeSection5, namedBy}
+use Rattle.format.specs.Point.{point52}
 use Rattle.format.specs.Layout.{groupSize, inFours}
 use Rattle.format.specs.Template.{templateBy}
 use Rattle.format.specs.declared.DecodedValue.the-variants.{Missing1, Missing2}
@@ -91,10 +92,16 @@ cases =
     ∷ unpackingSection5 octets52 (0xBC ∷ 0x80 ∷ 0x40 ∷ []) 36 shows points (number 5 ∷ Missing1 ∷ number 5 ∷ Missing1 ∷ [])
     ∷ unpackingSection5 octets53 (0x0A ∷ 0x82 ∷ 0x0C ∷ 0x50 ∷ []) 36
     shows points (number 10 ∷ number 11 ∷ number 9 ∷ number 12 ∷ [])
+    -- document 02, No. 3: of 5 6 5 7, and with management 1 by its Section 5
+    ∷ picking 1 (template 0 3 2 0 1 3 0 1 0) 4 (0xBC ∷ 0x80 ∷ 0x40 ∷ []) shows point (number 6)
+    ∷ picking 3 (template 0 3 2 0 1 3 0 1 0) 4 (0xBC ∷ 0x80 ∷ 0x40 ∷ []) shows point (number 7)
+    ∷ picking 4 (template 0 3 2 0 1 3 0 1 0) 4 (0xBC ∷ 0x80 ∷ 0x40 ∷ []) shows refused 15 []
+    ∷ pickingSection5 2 octets52 (0xBC ∷ 0x80 ∷ 0x40 ∷ []) shows point (number 5)
+    ∷ pickingSection5 3 octets52 (0xBC ∷ 0x80 ∷ 0x40 ∷ []) shows point Missing1
     ∷ []
 
 pub all-hold : AllHold cases
-unfolding listed referenceOf total joined anyOf greatest least flatMap first bitIn numberOf spanOf readField writeField widthsAt lengthsAt valuesAt codesOf saidBy groupWidth groupLength pointsBefore bitsBefore wrongGroup decoded pointOf pointAt pointsUpTo placesOf unpack52 descriptorsOf raised expected restored beyond points53 left53 unpack53 levelsOf repeatsFirst levelsIn runLength digitsIn bits widthOf endsBefore groupsFrom groupsOf recordsFrom widthCoding gcdIn gcd gcdFrom divisorUpTo incrementOf butLast lengthCoding templateOf lengthCodes valueString payloadOf packingOf packBy table sectionSize fieldCount laid at wrongHead readSection5 writeSection5 namedBy
+unfolding listed referenceOf total joined anyOf greatest least flatMap first bitIn numberOf spanOf readField writeField widthsAt lengthsAt valuesAt codesOf saidBy groupWidth groupLength pointsBefore bitsBefore wrongGroup decoded pointOf pointAt pointsUpTo placesOf unpack52 descriptorsOf raised expected restored beyond points53 left53 unpack53 levelsOf repeatsFirst levelsIn runLength digitsIn bits widthOf endsBefore groupsFrom groupsOf recordsFrom widthCoding gcdIn gcd gcdFrom divisorUpTo incrementOf butLast lengthCoding templateOf lengthCodes valueString payloadOf packingOf packBy table sectionSize fieldCount laid at wrongHead readSection5 writeSection5 namedBy point52
 all-hold = refl
 
 -- document 02, No. 1: where Section 5 has each number that unpacking takes

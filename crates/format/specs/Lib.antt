@@ -9,6 +9,7 @@ pub mod RunLength
 pub mod Grouping
 pub mod Packing
 pub mod Section5
+pub mod Point
 pub mod Seen
 pub mod Cases
 pub mod Sentences

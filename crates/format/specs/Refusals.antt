@@ -1,11 +1,11 @@
--- Document 01, "What each number says", and 14 of document 02. Assumes nothing.
+-- Document 01, "What each number says", and 14 and 15 of document 02. Assumes nothing.
 use Prim.Native.Nat.{ℕ}
 use mathlib.Core.Bool.{Bool, true, false, not}
 use mathlib.Core.List.{List, [], _∷_}
 use lib.Dec.{eqb, ltb}
 use Rattle.format.specs.Lists.{wholeOnes}
 use Rattle.format.specs.declared.Refusal.{Refusal}
-use Rattle.format.specs.declared.Refusal.the-variants.{Splitting, Management, Order, Descriptors, Width, GroupCount, Short, GroupSize, Points, Room, Repeat, Beyond, Numbers, Section5}
+use Rattle.format.specs.declared.Refusal.the-variants.{Splitting, Management, Order, Descriptors, Width, GroupCount, Short, GroupSize, Points, Room, Repeat, Beyond, Numbers, Section5, Place}
 use Rattle.format.specs.declared.Fetched.{Fetched}
 use Rattle.format.specs.declared.Fetched.the-variants as fetched
 use Rattle.format.specs.declared.Stored.{Stored}
@@ -14,6 +14,8 @@ use Rattle.format.specs.declared.Located.{Located}
 use Rattle.format.specs.declared.Located.the-variants as located
 use Rattle.format.specs.declared.Unpacked.{Unpacked}
 use Rattle.format.specs.declared.Unpacked.the-variants as unpacked
+use Rattle.format.specs.declared.Picked.{Picked}
+use Rattle.format.specs.declared.Picked.the-variants as picked
 use Rattle.format.specs.declared.Unrolled.{Unrolled}
 use Rattle.format.specs.declared.Unrolled.the-variants as unrolled
 use Rattle.format.specs.declared.Grouped.{Grouped}
@@ -37,6 +39,7 @@ refusalNumber Repeat = 11
 refusalNumber Beyond = 12
 refusalNumber Numbers = 13
 refusalNumber Section5 = 14
+refusalNumber Place = 15
 
 -- "Given when": a row is a test, and the refusal that is given when it holds
 pub data Row : Type 0 where
@@ -82,6 +85,10 @@ locatedNumber (located.Refused r) = refusalNumber r
 abbrev pub unpackedNumber : Unpacked → ℕ
 unpackedNumber (unpacked.Points count) = 0
 unpackedNumber (unpacked.Refused r) = refusalNumber r
+
+abbrev pub pickedNumber : Picked → ℕ
+pickedNumber (picked.Point point) = 0
+pickedNumber (picked.Refused r) = refusalNumber r
 
 abbrev pub unrolledNumber : Unrolled → ℕ
 unrolledNumber (unrolled.Levels count) = 0

@@ -4,13 +4,14 @@ use mathlib.Core.Path.{_≡_}
 use mathlib.Core.List.{List, [], _∷_, _++_, map, flatMap}
 use lib.ListN.{length, replicate}
 use lib.IntN.{pos}
-use Rattle.format.specs.Refusals.{Left, fetchedNumber, storedNumber, locatedNumber, unpackedNumber, unrolledNumber, groupedNumber, packedNumber}
+use Rattle.format.specs.Refusals.{Left, fetchedNumber, storedNumber, locatedNumber, unpackedNumber, pickedNumber, unrolledNumber, groupedNumber, packedNumber}
 use Rattle.format.specs.Bits.{readField, writeField}
-use Rattle.format.specs.Layout.{pointSize, pointOctets, levelSize, levelOctets, groupSize, inFours}
+use Rattle.format.specs.Layout.{pointSize, pointOctets, markOf, heldBy, twosComplement, levelSize, levelOctets, groupSize, inFours}
 use Rattle.format.specs.Template.{templateNumbers, templateBy}
 use Rattle.format.specs.Unpacking.{unpack52}
 use Rattle.format.specs.Differences.{unpack53}
 use Rattle.format.specs.Section5.{readSection5, writeSection5, unpackSection5}
+use Rattle.format.specs.Point.{point52, pointSection5}
 use Rattle.format.specs.RunLength.{runLength}
 use Rattle.format.specs.Grouping.{groupNumbersOf}
 use Rattle.format.specs.Packing.{Packing, missingValue, summarySize, pack}
@@ -23,6 +24,8 @@ use Rattle.format.specs.declared.Located.{Located}
 use Rattle.format.specs.declared.Located.the-variants as located
 use Rattle.format.specs.declared.Unpacked.{Unpacked}
 use Rattle.format.specs.declared.Unpacked.the-variants as unpacked
+use Rattle.format.specs.declared.Picked.{Picked}
+use Rattle.format.specs.declared.Picked.the-variants as picked
 use Rattle.format.specs.declared.Unrolled.{Unrolled}
 use Rattle.format.specs.declared.Unrolled.the-variants as unrolled
 use Rattle.format.specs.declared.Grouped.{Grouped}
@@ -72,6 +75,10 @@ number n = Normal (pos n)
 
 abbrev pub points : List DecodedValue → Seen
 points ds = answered (length ds ∷ []) (flatMap pointOctets ds ∷ [])
+
+-- one point: its mark and its number, which no buffer takes
+abbrev pub point : DecodedValue → Seen
+point d = answered (markOf d ∷ twosComplement (heldBy d) ∷ []) []
 
 abbrev pub levels : List ℕ → Seen
 levels xs = answered (length xs ∷ []) (flatMap levelOctets xs ∷ [])
@@ -143,6 +150,17 @@ writingSection5 numbers room =
 
 abbrev pub unpackingSection5 : List ℕ → List ℕ → ℕ → Seen
 unpackingSection5 section5 payload room = unpacks (unpackSection5 section5 payload (lent room))
+
+-- the point at a place of the list
+abbrev pub picks : Picked → Seen
+picks (picked.Point d) = point d
+picks (picked.Refused r) = refused (pickedNumber (picked.Refused r)) []
+
+abbrev pub picking : ℕ → Template → ℕ → List ℕ → Seen
+picking place t declared payload = picks (point52 place t declared payload)
+
+abbrev pub pickingSection5 : ℕ → List ℕ → List ℕ → Seen
+pickingSection5 place section5 payload = picks (pointSection5 place section5 payload)
 
 -- where the parts begin, where the values end, and how many points there are
 abbrev pub locates : Located → Seen

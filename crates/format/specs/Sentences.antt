@@ -6,7 +6,7 @@ use Prim.Native.Nat.{ℕ, zero, suc, _+_, _^_}
 use lib.Dec.{eqb, ltb}
 use lib.ListN.{replicate, set, take, length-replicate}
 use lib.IntN.{pos, negsuc, negℤ}
-use Rattle.format.specs.Seen.{Case, _shows_, AllHold, lent, refused, answered, numbers, spanned, number, points, levels, group, packs, readingIn, writing, template, unpacks, unpackingIn, unpacking, restoringIn, restoring, readingSection5, writingSection5, unpackingSection5, locates, unrollingIn, unrolling, grouping, kindNumbers, packingIn, packing}
+use Rattle.format.specs.Seen.{Case, _shows_, AllHold, lent, refused, answered, numbers, spanned, number, points, point, levels, group, packs, readingIn, writing, template, unpacks, unpackingIn, unpacking, restoringIn, restoring, readingSection5, writingSection5, unpackingSection5, picking, pickingSection5, locates, unrollingIn, unrolling, grouping, kindNumbers, packingIn, packing}
 use Rattle.format.specs.Lists.{listed, total, joined, anyOf, greatest, least}
 use Rattle.format.specs.Refusals.{_gives_, first}
 use Rattle.format.specs.Bits.{bitIn, numberOf, spanOf, readField, writeField}
@@ -17,6 +17,7 @@ use Rattle.format.specs.RunLength.{levelsOf, repeatsFirst, levelsIn, run
 use Rattle.format.specs.Grouping.{digitsIn, bits, widthOf, endsBefore, groupsFrom, groupsOf, recordsFrom, numberRefusals, groupNumbersOf}
 use Rattle.format.specs.Packing.{summarySize, widthCoding, gcdIn, gcd, gcdFrom, divisorUpTo, incrementOf, butLast, lengthCoding, templateOf, lengthCodes, valueString, payloadOf, packingOf, packBy}
 use Rattle.format.specs.Section5.{table, sectionSize, fieldCount, laid, at, wrongHead, readSection5, writeSection5, namedBy}
+use Rattle.format.specs.Point.{point52}
 use Rattle.format.specs.Cases.{octets52, fields52, octets53, fields53}
 use Rattle.format.specs.Layout.{pointOctets, levelOctets, numbersIn, inFours}
 use Rattle.format.specs.declared.Refusal.the-variants.{Numbers}
@@ -213,10 +214,29 @@ sentences =
     ∷ readingSection5 (set octets52 19 200) 80 shows numbers (inFours (set fields52 7 200))
     ∷ writingSection5 (set fields52 7 200) 47 shows spanned 47 (set octets52 19 200)
     ∷ unpackingSection5 (set octets52 19 200) (0xBC ∷ 0x80 ∷ 0x40 ∷ []) 36 shows refused 5 (lent 36 ∷ [])
+    -- document 02, No. 3: "15 [..] comes after 9, and 10 does not arise": all faults at once, then one fewer each time
+    ∷ pickingSection5 5 (set (set octets52 4 6) 21 0) [] shows refused 14 []
+    ∷ pickingSection5 5 (set octets52 21 0) [] shows refused 1 []
+    ∷ picking 5 (templateBy 32 1 3 0 32 0 0 0 4 0) 5 [] shows refused 2 []
+    ∷ picking 5 (templateBy 32 1 0 0 32 0 0 0 4 0) 5 [] shows refused 6 []
+    ∷ picking 5 (templateBy 32 1 0 1 32 0 0 0 4 0) 5 [] shows refused 5 []
+    ∷ picking 5 (templateBy 8 1 0 1 32 0 0 0 4 0) 5 [] shows refused 7 []
+    ∷ picking 5 (templateBy 8 1 0 1 32 0 0 0 4 0) 5 (0x00 ∷ []) shows refused 8 []
+    ∷ picking 5 (templateBy 8 1 0 1 3 0 0 0 4 0) 5 (0x00 ∷ []) shows refused 7 []
+    ∷ picking 5 (templateBy 8 1 0 1 3 0 0 0 4 0) 5 (0x00 ∷ 0x0C ∷ 0x50 ∷ []) shows refused 9 []
+    ∷ picking 5 (templateBy 8 1 0 1 3 0 0 0 4 0) 4 (0x00 ∷ 0x0C ∷ 0x50 ∷ []) shows refused 15 []
+    ∷ picking 3 (templateBy 8 1 0 1 3 0 0 0 4 0) 4 (0x00 ∷ 0x0C ∷ 0x50 ∷ []) shows point (number 5)
+    -- "For template 5.2": a Section 5 of 5.3 is 14
+    ∷ pickingSection5 0 octets53 (0x0A ∷ 0x82 ∷ 0x0C ∷ 0x50 ∷ []) shows refused 14 []
+    -- groups of no points are passed over, before, between and behind others: lengths 0, 1, 0, 1, 0 of references 5 to 9
+    ∷ picking 0 (template 0 8 5 0 0 0 1 0 1) 2 (5 ∷ 6 ∷ 7 ∷ 8 ∷ 9 ∷ 0x50 ∷ []) shows point (number 6)
+    ∷ picking 1 (template 0 8 5 0 0 0 1 0 1) 2 (5 ∷ 6 ∷ 7 ∷ 8 ∷ 9 ∷ 0x50 ∷ []) shows point (number 8)
+    -- a map of no points has no place
+    ∷ picking 0 (template 0 8 1 0 0 0 0 0 0) 0 (5 ∷ []) shows refused 15 []
     ∷ []
 
 pub all-hold : AllHold sentences
-unfolding listed referenceOf total joined anyOf greatest least flatMap first bitIn numberOf spanOf readField writeField widthsAt lengthsAt valuesAt codesOf saidBy groupWidth groupLength pointsBefore bitsBefore wrongGroup decoded pointOf pointAt pointsUpTo placesOf locate52 unpack52 descriptorsOf raised expected restored beyond points53 locate53 left53 unpack53 levelsOf repeatsFirst levelsIn runLength digitsIn bits widthOf endsBefore groupsFrom groupsOf recordsFrom groupNumbersOf widthCoding gcdIn gcd gcdFrom divisorUpTo incrementOf butLast lengthCoding templateOf lengthCodes valueString payloadOf packingOf packBy table sectionSize fieldCount laid at wrongHead readSection5 writeSection5 namedBy
+unfolding listed referenceOf total joined anyOf greatest least flatMap first bitIn numberOf spanOf readField writeField widthsAt lengthsAt valuesAt codesOf saidBy groupWidth groupLength pointsBefore bitsBefore wrongGroup decoded pointOf pointAt pointsUpTo placesOf locate52 unpack52 descriptorsOf raised expected restored beyond points53 locate53 left53 unpack53 levelsOf repeatsFirst levelsIn runLength digitsIn bits widthOf endsBefore groupsFrom groupsOf recordsFrom groupNumbersOf widthCoding gcdIn gcd gcdFrom divisorUpTo incrementOf butLast lengthCoding templateOf lengthCodes valueString payloadOf packingOf packBy table sectionSize fieldCount laid at wrongHead readSection5 writeSection5 namedBy point52
 all-hold = refl
 
 -- 13: "above 4,194,304 numbers" is too long a list to compute. The rows that n zeros meet with lookahead 1, whatever n is:

@@ -1,7 +1,7 @@
 // The plain types that documents 01 and 02 speak of. What they mean stands in specs/, a file for each heading of document 01
 // and for what document 02 adds.
 
-// "What each number says": a case for each row of the table, and 14 of document 02. `refusalNumber` of specs/Refusals.antt
+// "What each number says": a case for each row of the table, and 14 and 15 of document 02. `refusalNumber` of specs/Refusals.antt
 // has the numbers.
 pub enum Refusal {
     Splitting,
@@ -18,6 +18,7 @@ pub enum Refusal {
     Beyond,
     Numbers,
     Section5,
+    Place,
 }
 
 // "4,194,304": no more groups, points or numbers than that. `limit` of specs/Refusals.antt is the same.
@@ -116,6 +117,12 @@ pub enum DecodedValue {
 // What unpacking answers: how many points it wrote.
 pub enum Unpacked {
     Points(u32),
+    Refused(Refusal),
+}
+
+// Document 02, No. 3: one point, from its place in the list.
+pub enum Picked {
+    Point(DecodedValue),
     Refused(Refusal),
 }
 

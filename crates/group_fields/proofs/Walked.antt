@@ -1,23 +1,25 @@
--- The walk over all groups decides 8, and 7 for the values. Assumes nothing.
-use mathlib.Core.Path.{_≡_, refl, sym, ap, ap₂, _∙_}
-use mathlib.Core.Bool.{Bool, true, false, and-false, or-true}
+-- The walk over all groups decides 8, and 7 for the values, and finds the group that holds a place. Assumes nothing.
+use mathlib.Core.Path.{_≡_, refl, sym, ap, _∙_}
+use mathlib.Core.Bool.{Bool, true, false, cond, and-false, or-true}
 use Prim.Native.Nat.{ℕ, suc, _+_, _^_, _≤_, _<_}
 use native.Mathlib.Omega.{arith}
+use lib.Dec.{leb}
 use lib.ListN.{length, getD, drop}
 use borrow.Author.Tests.{lt-ltb, le-ltb}
 use Rattle.format.specs.Lists.{listed, anyOf}
 use Rattle.format.specs.Refusals.{first}
-use Rattle.format.specs.Unpacking.{Codes, groupWidth, groupLength, bitsBefore, wrongGroup, placesOf, groupRefusals, locatedBy}
+use Rattle.format.specs.Unpacking.{Codes, groupWidth, groupLength, bitsBefore, wrongGroup, placesOf, groupRefusals}
 use Rattle.format.specs.declared.Template.{Template}
 use Rattle.format.specs.declared.Places.{Places}
-use Rattle.format.specs.declared.Located.{Located}
-use Rattle.format.specs.declared.Located.the-variants as located
 use Rattle.format.specs.declared.Refusal.the-variants.{GroupSize, Short}
 use Rattle.laws.specs.First.{decides, clears, tests}
 use Rattle.laws.specs.Lists.{length-listed, getD-listed, any-here, any-later, any-end}
 use Rattle.groups.specs.declared.Walk.{Walk}
-use Rattle.groups.specs.Walk.{Walking, atFirst, Further}
-use Rattle.groups.proofs.Walking.{walking-start, walking-step}
+use Rattle.groups.specs.Walk.{Walking, nearestOf, atFirst, Further}
+use Rattle.groups.proofs.Walking.{walking-start, walking-step, nearest-start, nearest-step}
+use Rattle.group_fields.specs.Surveying.{surveyedBy}
+use Rattle.group_fields.specs.declared.Surveyed.{Surveyed}
+use Rattle.group_fields.specs.declared.Surveyed.the-variants as surveyed
 
 -- ---- which group is wrong
 
@@ -41,16 +43,17 @@ wrongFrom t codes g = anyOf (wrongGroup t codes) (drop g (listed (t .groups) (λ
 -- ---- the walk
 
 -- none of the groups that are walked is wrong: those left decide
-pub record Walked (t : Template) (codes : Codes) (walk : Walk) : Type 0 where
+pub record Walked (t : Template) (codes : Codes) (place : ℕ) (holder walk : Walk) : Type 0 where
   pub walking : Walking t codes walk
   pub right : wrongFrom t codes 0 ≡ wrongFrom t codes (walk .group)
+  pub near : holder ≡ nearestOf t codes place (walk .group)
 
-pub walked-start : (t : Template) (codes : Codes) → Walked t codes atFirst
-walked-start t codes = record { walking = walking-start; right = refl }
+pub walked-start : (t : Template) (codes : Codes) (place : ℕ) → Walked t codes place atFirst atFirst
+walked-start t codes place = record { walking = walking-start; right = refl; near = nearest-start t codes place }
 
-module _ {t : Template} {codes : Codes} {walk : Walk} {n : ℕ} (w : Walked t codes walk) (en : (n ≡ t .groups) × (n < 2 ^ 32)) where
-  abbrev answer : ℕ → ℕ → Located
-  answer start octets = locatedBy (groupRefusals start t octets codes) start t codes
+module _ {t : Template} {codes : Codes} {place : ℕ} {holder walk : Walk} {n : ℕ} (w : Walked t codes place holder walk) (en : (n ≡ t .groups) × (n < 2 ^ 32)) where
+  abbrev answer : ℕ → ℕ → Surveyed
+  answer start octets = surveyedBy (groupRefusals start t octets codes) start t codes place
 
   module _ (l : walk .group < n) where
     here : (b : Bool) → wrongGroup t codes (walk .group) ≡ b → wrongGroup t codes (getD (listed (t .groups) (λ k. k)) (walk .group) 0) ≡ b
@@ -59,25 +62,27 @@ module _ {t : Template} {codes : Codes} {walk : Walk} {n : ℕ} (w : Walked t co
     among : walk .group < length (listed (t .groups) (λ (k : ℕ). k))
     among = omega (arith, length-listed (t .groups) (λ (k : ℕ). k))
 
-    wrong : (start octets : ℕ) → wrongGroup t codes (walk .group) ≡ true → located.Refused GroupSize ≡ answer start octets
+    wrong : (start octets : ℕ) → wrongGroup t codes (walk .group) ≡ true → surveyed.Refused GroupSize ≡ answer start octets
     unfolding first
     wrong start octets e = rw (any-here (wrongGroup t codes) (listed (t .groups) (λ k. k)) 0 (walk .group) among (here true e))
 
     module _ {width : ℕ} (ew : width ≡ groupWidth t codes (walk .group)) where
-      pub walked-wide : (start octets : ℕ) → 31 < width → located.Refused GroupSize ≡ answer start octets
+      pub walked-wide : (start octets : ℕ) → 31 < width → surveyed.Refused GroupSize ≡ answer start octets
       walked-wide start octets m = wrong start octets (too-wide t codes (walk .group) (omega arith))
 
       module _ {length : ℕ} (el : length ≡ groupLength t codes (walk .group)) where
-        pub walked-more : {next : Walk} → width ≤ 31 → length ≤ 4294967295 → Further walk width length next → Walked t codes next
-        walked-more mw ml e = record {
+        pub walked-more : {next nearer : Walk} → width ≤ 31 → length ≤ 4294967295 → nearer ≡ cond (leb (walk .points) place) walk holder
+            → Further walk width length next → Walked t codes place nearer next
+        walked-more mw ml eh e = record {
           walking = walking-step (w .walking) (omega arith) ew el mw ml e;
           right =
               w .right ∙ any-later (wrongGroup t codes) (listed (t .groups) (λ k. k)) 0 (walk .group) among (here false (neither t codes (walk .group) (omega arith) (omega arith)))
               ∙ ap (wrongFrom t codes) (sym (e .group));
+          near = nearest-step t codes place (w .walking) (w .near) eh e;
         }
 
     -- the last length is none that is too long
-    pub walked-long : (start octets : ℕ) {length : ℕ} → (length ≡ groupLength t codes (walk .group)) × (t .groups ≤ walk .group + 1 → length ≤ 4294967295) → 4294967295 < length → located.Refused GroupSize ≡ answer start octets
+    pub walked-long : (start octets : ℕ) {length : ℕ} → (length ≡ groupLength t codes (walk .group)) × (t .groups ≤ walk .group + 1 → length ≤ 4294967295) → 4294967295 < length → surveyed.Refused GroupSize ≡ answer start octets
     walked-long start octets {length} e m =
         let last : (t .groups ≤ walk .group + 1 → ⊥) = λ z. omega (arith, e .1 z) in
         wrong start octets (too-long t codes (walk .group) (omega arith) (omega arith))
@@ -95,8 +100,8 @@ module _ {t : Template} {codes : Codes} {walk : Walk} {n : ℕ} (w : Walked t co
     end-is : p .end .0 ≡ placesOf start t (bitsBefore t codes (t .groups)) .end .0
     end-is = ap (λ (q : Places). q .end .0) places-are
 
-    pub walked-short : octets < p .end .0 → located.Refused Short ≡ answer start octets
-    walked-short l = decides located.Refused Short (groupRefusals start t octets codes) _ (omega (arith, tests, none, end-is))
+    pub walked-short : octets < p .end .0 → surveyed.Refused Short ≡ answer start octets
+    walked-short l = decides surveyed.Refused Short (groupRefusals start t octets codes) _ (omega (arith, tests, none, end-is))
 
-    pub walked-at : p .end .0 ≤ octets → located.At p (walk .points) ≡ answer start octets
-    walked-at l = ap₂ located.At places-are (w .walking .count ∙ rw done) ∙ clears located.Refused (groupRefusals start t octets codes) _ (omega (arith, tests, none, end-is))
+    pub walked-at : p .end .0 ≤ octets → surveyed.At p (walk .points) holder ≡ answer start octets
+    walked-at l = rw (places-are, w .walking .count, w .near, done) (clears surveyed.Refused (groupRefusals start t octets codes) _ (omega (arith, tests, none, end-is)))

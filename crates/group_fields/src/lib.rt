@@ -1,5 +1,5 @@
-// Group fields under 5.2 and 5.3: where the parts are, what the groups come to, and the first refusal that applies, as far as
-// 7 for the values.
+// Group fields under 5.2 and 5.3: where the parts are, what the groups come to, which of them holds a place of the list, and
+// the first refusal that applies, as far as 7 for the values.
 ghost use mathlib.Core.Path.{_≡_};
 ghost use mathlib.Core.List.{_++_};
 ghost use Prim.Native.Nat.{_≤_};
@@ -9,7 +9,7 @@ ghost use Rattle.format.specs.Unpacking.{fieldsShort, groupRefusals, locatedRef
 ghost use Rattle.format.specs.Differences.{locate53};
 ghost use Rattle.laws.specs.Accepting.{Passing, Laid};
 ghost use Rattle.group_fields.specs.Parts.{boundsOf, OrderedIn};
-ghost use Rattle.group_fields.specs.Locating.{locatedIn};
+ghost use Rattle.group_fields.specs.Surveying.{surveyedIn, survey52, locatedOf};
 use format::Differencing;
 use format::Located;
 use format::OctetPlace;
@@ -17,6 +17,7 @@ use format::Part;
 use format::Places;
 use format::Refusal;
 use format::Template;
+use groups::Walk;
 
 // Where a part begins and ends.
 pub struct Bounds {
@@ -24,77 +25,104 @@ pub struct Bounds {
     pub to: OctetPlace,
 }
 
-// "8, 7 for the values": no group may be too wide or too long, and the payload ends with or after the last value's octet.
-fn groups_located(template: Template, payload: &[u8], places: Places) -> Located
+// Where the parts of a payload are, how many points its groups come to, and of these the last that begins at a place of the
+// list or before it: the one that holds the place, if it is below that count.
+pub enum Surveyed {
+    At(Places, usize, Walk),
+    Refused(Refusal),
+}
+
+// "8, 7 for the values": no group may be too wide or too long, and the payload ends with or after the last value's octet. The
+// one walk that decides this finds the group that holds a place on its way.
+fn groups_surveyed(template: Template, payload: &[u8], places: Places, place: usize) -> Surveyed
     requires { ⌜ Laid template places ⌝ }
-    ensures { λ r. ⌜ r ≡ locatedIn (groupRefusals (places .references .0) template) (places .references .0) template (now (payload .entry)) ⌝ }
+    ensures { λ r. ⌜ r ≡ surveyedIn (groupRefusals (places .references .0) template) (places .references .0) template (now (payload .entry)) place ⌝ }
 {
     let count = places::size(template.groups);
     let mut walk = groups::START;
+    let mut holder = groups::START;
     while walk.group < count {
         let width = groups::width_of(template, payload, places, walk.group);
         if 31 < width {
-            return Located::Refused(Refusal::GroupSize);
+            return Surveyed::Refused(Refusal::GroupSize);
         }
         let length = groups::length_of(template, payload, places, walk.group);
         if 4294967295 < length {
-            return Located::Refused(Refusal::GroupSize);
+            return Surveyed::Refused(Refusal::GroupSize);
         }
+        holder = groups::nearer(holder, walk, place);
         walk = groups::step(walk, width, length);
     }
     let ended = places::parts_of(template, places.references.0, walk.bits);
     if payload.len() < ended.end.0 {
-        return Located::Refused(Refusal::Short);
+        return Surveyed::Refused(Refusal::Short);
     }
-    Located::At(ended, walk.points)
+    Surveyed::At(ended, walk.points, holder)
 }
 
 // "7 for the group fields", then the groups.
-fn fields_located(template: Template, start: usize, payload: &[u8]) -> Located
+fn fields_surveyed(template: Template, start: usize, payload: &[u8], place: usize) -> Surveyed
     requires { ⌜ Passing template × (start ≤ 12) ⌝ }
-    ensures { λ r. ⌜ r ≡ locatedIn (λ octets codes. fieldsShort start template octets ++ groupRefusals start template octets codes) start template (now (payload .entry)) ⌝ }
+    ensures { λ r. ⌜ r ≡ surveyedIn (λ octets codes. fieldsShort start template octets ++ groupRefusals start template octets codes) start template (now (payload .entry)) place ⌝ }
 {
     let places = places::parts_of(template, start, 0);
     if payload.len() < places.values.0 {
-        return Located::Refused(Refusal::Short);
+        return Surveyed::Refused(Refusal::Short);
     }
-    groups_located(template, payload, places)
+    groups_surveyed(template, payload, places, place)
 }
 
 // From 6 on, which 5.2 and 5.3 share: the references begin at octet `start`.
-fn located(template: Template, start: usize, payload: &[u8]) -> Located
+fn surveyed_from(template: Template, start: usize, payload: &[u8], place: usize) -> Surveyed
     requires { ⌜ start ≤ 12 ⌝ }
-    ensures { λ r. ⌜ r ≡ locatedIn (locatedRefusals start template) start template (now (payload .entry)) ⌝ }
+    ensures { λ r. ⌜ r ≡ surveyedIn (locatedRefusals start template) start template (now (payload .entry)) place ⌝ }
 {
     if template.groups == 0 {
-        return Located::Refused(Refusal::GroupCount);
+        return Surveyed::Refused(Refusal::GroupCount);
     }
     if format::LIMIT < template.groups {
-        return Located::Refused(Refusal::GroupCount);
+        return Surveyed::Refused(Refusal::GroupCount);
     }
     if 31 < template.width {
-        return Located::Refused(Refusal::Width);
+        return Surveyed::Refused(Refusal::Width);
     }
     if 32 < template.widths.bits {
-        return Located::Refused(Refusal::Width);
+        return Surveyed::Refused(Refusal::Width);
     }
     if 32 < template.lengths.bits {
-        return Located::Refused(Refusal::Width);
+        return Surveyed::Refused(Refusal::Width);
     }
-    fields_located(template, start, payload)
+    fields_surveyed(template, start, payload, place)
 }
 
 // "Order for 5.2: 1, 2, 6, 5, 7 for the group fields, 8, 7 for the values".
+pub fn surveyed_complex(template: Template, payload: &[u8], place: usize) -> Surveyed
+    ensures { λ r. ⌜ r ≡ survey52 template (now (payload .entry)) place ⌝ }
+{
+    if template.splitting != 1 {
+        return Surveyed::Refused(Refusal::Splitting);
+    }
+    if 2 < template.management {
+        return Surveyed::Refused(Refusal::Management);
+    }
+    surveyed_from(template, 0, payload, place)
+}
+
+// Where the parts are, where no place is asked for.
+fn located_of(surveyed: Surveyed) -> Located
+    ensures { λ r. ⌜ r ≡ locatedOf surveyed ⌝ }
+{
+    match surveyed {
+        Surveyed::At(places, points, _) => Located::At(places, points),
+        Surveyed::Refused(refusal) => Located::Refused(refusal),
+    }
+}
+
+// The same, where no place is asked for.
 pub fn located_complex(template: Template, payload: &[u8]) -> Located
     ensures { λ r. ⌜ r ≡ locate52 template (now (payload .entry)) ⌝ }
 {
-    if template.splitting != 1 {
-        return Located::Refused(Refusal::Splitting);
-    }
-    if 2 < template.management {
-        return Located::Refused(Refusal::Management);
-    }
-    located(template, 0, payload)
+    located_of(surveyed_complex(template, payload, 0))
 }
 
 // Where the descriptors end: as many first values as the order says, and the minimum.
@@ -134,7 +162,7 @@ pub fn located_spatial(template: Template, differencing: Differencing, payload: 
     if payload.len() < start {
         return Located::Refused(Refusal::Short);
     }
-    located(template, start, payload)
+    located_of(surveyed_from(template, start, payload, 0))
 }
 
 // Where a part begins and ends; a payload that is refused has none.

@@ -1,14 +1,18 @@
--- The walk over all groups: where it starts, and a step. Assumes nothing.
+-- The walk over all groups: where it starts, and a step; and the group that holds a place, found on its way. Assumes nothing.
 use mathlib.Core.Path.{_≡_, refl, ap₂, _∙_}
+use mathlib.Core.Bool.{Bool, true, false, cond}
 use Prim.Native.Nat.{ℕ, _+_, _*_, _≤_, _<_}
+use native.Mathlib.Numerals.{add-one}
 use native.Mathlib.Omega.{arith}
+use lib.Dec.{leb}
 use Rattle.format.specs.Lists.{total}
 use Rattle.format.specs.Unpacking.{Codes, groupWidth, groupLength, pointsBefore, bitsBefore}
 use Rattle.format.specs.declared.Template.{Template}
 use Rattle.laws.specs.Bits.{product}
 use Rattle.laws.specs.Lists.{total-next}
+use Rattle.laws.specs.Points.{holderOf}
 use Rattle.groups.specs.declared.Walk.{Walk}
-use Rattle.groups.specs.Walk.{Walking, atFirst, Further}
+use Rattle.groups.specs.Walk.{Walking, walkAt, nearestOf, atFirst, Further}
 
 module _ {t : Template} {codes : Codes} where
   pub walking-start : Walking t codes atFirst
@@ -29,3 +33,20 @@ module _ {t : Template} {codes : Codes} where
         count-low = omega (arith, w .count-low);
         size-low = omega (arith, w .size-low);
       }
+
+-- ---- the group that holds a place
+
+module _ (t : Template) (codes : Codes) (place : ℕ) where
+  pub nearest-start : atFirst ≡ nearestOf t codes place 0
+  unfolding holderOf pointsBefore bitsBefore total
+  nearest-start = refl
+
+  pub nearest-step : {walk next holder nearer : Walk} {width length : ℕ} → Walking t codes walk → holder ≡ nearestOf t codes place (walk .group)
+      → nearer ≡ cond (leb (walk .points) place) walk holder → Further walk width length next → nearer ≡ nearestOf t codes place (next .group)
+  unfolding holderOf
+  nearest-step {walk} w eh en e =
+      en ∙ rw (w .count, w .size, eh, e .group, add-one) (by-test (leb (pointsBefore t codes (walk .group)) place) (walk .group) (holderOf t codes place (walk .group)))
+    where
+      by-test : (b : Bool) (g h : ℕ) → cond b (walkAt t codes g) (walkAt t codes h) ≡ walkAt t codes (cond b g h)
+      by-test true g h = refl
+      by-test false g h = refl

@@ -10,10 +10,17 @@ use Rattle.format.specs.Unpacking.{Codes, referenceOf, groupWidth, groupLength,
 use Rattle.format.specs.declared.Template.{Template}
 use Rattle.format.specs.declared.DecodedValue.{DecodedValue}
 use Rattle.groups.specs.declared.PackedGroup.{PackedGroup}
+use Rattle.groups.specs.declared.HeldGroup.{HeldGroup}
+use Rattle.groups.specs.declared.Walk.{Walk}
 
 -- group g, as the codes say
 abbrev pub codedGroup : Template → Codes → ℕ → PackedGroup
 codedGroup t codes g = record { reference = referenceOf codes g; width = groupWidth t codes g; length = groupLength t codes g }
+
+-- the group that a walk stands at, where the values of all begin at that octet
+abbrev pub heldGroup : Template → Codes → ℕ → Walk → HeldGroup
+heldGroup t codes values walk =
+    record { group = codedGroup t codes (walk .group); first = walk .points; values = record { 0 = values * 8 + walk .bits } }
 
 -- point k of a group whose values begin at bit p
 unfoldable pub valuePoint : Template → PackedGroup → List ℕ → ℕ → ℕ → DecodedValue

@@ -1,7 +1,8 @@
 // A group under 5.2 and 5.3, its values and its points, and the walk over all groups.
 ghost use mathlib.Core.Path.{_≡_};
-ghost use mathlib.Core.Bool.{true};
+ghost use mathlib.Core.Bool.{true, cond};
 ghost use Prim.Native.Nat.{_+_, _*_, _/_, _<_, _≤_, _^_};
+ghost use lib.Dec.{leb};
 ghost use lib.IntN.{pos};
 ghost use lib.ListN.{length};
 ghost use Rattle.format.specs.Bits.{numberAt};
@@ -9,7 +10,7 @@ ghost use Rattle.format.specs.Refusals.{limit};
 ghost use Rattle.format.specs.Unpacking.{codesOf, referenceOf, groupWidth, groupLength, decoded, pointOf};
 ghost use Rattle.format.specs.declared.DecodedValue.the-variants.{Normal};
 ghost use Rattle.laws.specs.Accepting.{Laid};
-ghost use Rattle.groups.specs.Packed.{codedGroup, Limited, allThere};
+ghost use Rattle.groups.specs.Packed.{codedGroup, heldGroup, Limited, allThere};
 ghost use Rattle.groups.specs.Walk.{Further};
 use format::BitPlace;
 use format::DecodedValue;
@@ -22,6 +23,13 @@ pub struct PackedGroup {
     pub reference: u32,
     pub width: usize,
     pub length: usize,
+}
+
+// A group that holds a place of the list: what it is, the place of its first point, and where its values begin.
+pub struct HeldGroup {
+    pub group: PackedGroup,
+    pub first: usize,
+    pub values: BitPlace,
 }
 
 // The group that a walk stands at, and the points and the bits of the values before it.
@@ -47,6 +55,17 @@ pub fn step(walk: Walk, width: usize, length: usize) -> Walk
         points: walk.points + length,
         bits: walk.bits + places::times(length, width),
     }
+}
+
+// Of two groups that a walk stood at, the later where it begins at a place of the list or before it: of all groups, the last
+// that does holds the place. A group of no points is passed over, since the next begins where it does.
+pub fn nearer(holder: Walk, walk: Walk, place: usize) -> Walk
+    ensures { λ r. ⌜ r ≡ cond (leb (walk .points) place) walk holder ⌝ }
+{
+    if walk.points <= place {
+        return walk;
+    }
+    holder
 }
 
 // Number g of a group field.
@@ -105,6 +124,20 @@ pub fn read_group(template: Template, payload: &[u8], places: Places, g: usize) 
         reference: reference_of(template, payload, places, g),
         width: width_of(template, payload, places, g),
         length: length_of(template, payload, places, g),
+    }
+}
+
+// The group that a walk stands at, where it lies.
+pub fn held_group(template: Template, payload: &[u8], places: Places, walk: Walk) -> HeldGroup
+    requires { ⌜ Laid template places × (walk .group < template .groups) × (walk .bits < 2 ^ 62) ⌝ }
+    ensures { λ r. ⌜ r ≡ heldGroup template (codesOf (places .references .0) template (now (payload .entry))) (places .values .0) walk ⌝ }
+{
+    let group = read_group(template, payload, places, walk.group);
+    let values = BitPlace(places::first_bit(places.values).0 + walk.bits);
+    HeldGroup {
+        group,
+        first: walk.points,
+        values,
     }
 }
 

@@ -9,7 +9,7 @@ use native.Mathlib.Omega.{arith}
 use borrow.Author.Tests.{le-ltb, eq-eqb, ne-eqb, ltb-true, ltb-false, eqb-true, eqb-false, not-true, not-false}
 use Rattle.format.specs.Refusals.{Row, _gives_, first, refusalNumber}
 use Rattle.format.specs.declared.Refusal.{Refusal}
-use Rattle.format.specs.declared.Refusal.the-variants.{Splitting, Management, Order, Descriptors, Width, GroupCount, Short, GroupSize, Points, Room, Repeat, Beyond, Numbers, Section5}
+use Rattle.format.specs.declared.Refusal.the-variants.{Splitting, Management, Order, Descriptors, Width, GroupCount, Short, GroupSize, Points, Room, Repeat, Beyond, Numbers, Section5, Place}
 
 -- ---- `omega (arith, tests)` reads what a test comes to from the order of its numbers, and the other way round
 
@@ -62,7 +62,7 @@ pub ruleset tests = (
 -- ---- a refusal is known by its number
 
 abbrev refusalOf : ℕ → Refusal
-refusalOf n = getD (Section5 ∷ Splitting ∷ Management ∷ Order ∷ Descriptors ∷ Width ∷ GroupCount ∷ Short ∷ GroupSize ∷ Points ∷ Room ∷ Repeat ∷ Beyond ∷ Numbers ∷ Section5 ∷ []) n Section5
+refusalOf n = getD (Place ∷ Splitting ∷ Management ∷ Order ∷ Descriptors ∷ Width ∷ GroupCount ∷ Short ∷ GroupSize ∷ Points ∷ Room ∷ Repeat ∷ Beyond ∷ Numbers ∷ Section5 ∷ Place ∷ []) n Place
 
 back : (r : Refusal) → refusalOf (refusalNumber r) ≡ r
 back Splitting = refl
@@ -79,6 +79,7 @@ back Repeat = refl
 back Beyond = refl
 back Numbers = refl
 back Section5 = refl
+back Place = refl
 
 -- "The call returns the refusal's number, or 0.": which no refusal has
 pub refusal-some : (r : Refusal) → 0 < refusalNumber r
@@ -96,6 +97,7 @@ refusal-some Repeat = omega arith
 refusal-some Beyond = omega arith
 refusal-some Numbers = omega arith
 refusal-some Section5 = omega arith
+refusal-some Place = omega arith
 
 -- two refusals of one number are one
 pub same-number : {q r : Refusal} → refusalNumber q ≡ refusalNumber r → q ≡ r

@@ -69,30 +69,31 @@ module _ (t : Template) (said : Said) where
           List·getD-append (joined n group) (group n) d (pointsBefore t (said .codes) g + k) (omega (arith, long, points-within t (said .codes) n g (leb-false n g e), m))
           ∙ earlier (leb-false n g e)
 
-  -- and every place is one of a group
-  pub record Placed (n i : ℕ) : Type 0 where
-    pub g : ℕ
-    pub k : ℕ
-    pub among : g < n
-    pub inside : k < groupLength t (said .codes) g
-    pub place : i ≡ pointsBefore t (said .codes) g + k
+-- ---- the group that holds a place
 
-  pub placed : (n i : ℕ) → i < pointsBefore t (said .codes) n → Placed n i
-  unfolding pointsBefore total
-  placed zero i l = absurd (omega arith)
-  placed (suc n) i l = by-test (leb (total n (groupLength t (said .codes))) i) refl (placed n i)
+module _ (t : Template) (codes : Codes) (place : ℕ) where
+  -- of the first n groups the last that begins at the place or before it
+  unfoldable pub holderOf : ℕ → ℕ
+  holderOf zero = 0
+  holderOf (suc n) = cond (leb (pointsBefore t codes n) place) n (holderOf n)
+
+  -- it holds the place, and so is none without points
+  pub record Holds (n g : ℕ) : Type 0 where
+    pub among : g < n
+    pub begins : pointsBefore t codes g ≤ place
+    pub ends : place < pointsBefore t codes g + groupLength t codes g
+
+  -- every place of the list is one of a group
+  pub held : (n : ℕ) → place < pointsBefore t codes n → Holds n (holderOf n)
+  unfolding holderOf pointsBefore total
+  held zero l = absurd (omega arith)
+  held (suc n) l = by-test (leb (total n (groupLength t codes)) place) refl (held n)
     where
-      by-test : (b : Bool) → leb (total n (groupLength t (said .codes))) i ≡ b → (i < total n (groupLength t (said .codes)) → Placed n i) → Placed (suc n) i
-      by-test true e earlier = record {
-        g = n;
-        k = i - total n (groupLength t (said .codes));
-        among = omega arith;
-        inside = omega (arith, leb-true (total n (groupLength t (said .codes))) i e);
-        place = omega (arith, leb-true (total n (groupLength t (said .codes))) i e);
-      }
+      by-test : (b : Bool) → leb (total n (groupLength t codes)) place ≡ b → (place < total n (groupLength t codes) → Holds n (holderOf n)) → Holds (suc n) (cond b n (holderOf n))
+      by-test true e earlier = record { among = omega arith; begins = leb-true (total n (groupLength t codes)) place e; ends = l }
       by-test false e earlier =
-          let p = earlier (leb-false (total n (groupLength t (said .codes))) i e) in
-          record { g = p .g; k = p .k; among = omega (arith, p .among); inside = p .inside; place = p .place }
+          let h = earlier (leb-false (total n (groupLength t codes)) place e) in
+          record { among = omega (arith, h .among); begins = h .begins; ends = h .ends }
 
 -- ---- its own bits
 

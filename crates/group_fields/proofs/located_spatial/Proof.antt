@@ -2,6 +2,7 @@
 use mathlib.Core.Path.{_∙_}
 use Rattle.format.specs.Differences.{locate53}
 use Rattle.laws.specs.First.{decides, leaves, tests}
+use Rattle.group_fields.proofs.Order.{located-by}
 use borrow.Author.Needs.{needs}
 use native.Mathlib.Omega.{arith}
 use Rattle.group_fields.proofs.located_spatial.Statement.{statement}
@@ -21,4 +22,5 @@ located-spatial-spec =
     (λ c κs. search needs)
     (λ c. decides _ _ _ _ (omega (arith, tests)))
     (λ c κs. search needs)
-    (λ c. rw (← (c .before .before .descriptors-end .ensures .0)) (c .located .ensures ∙ leaves _ 7 _ _ (omega (arith, tests)))))
+    (λ c κs. search needs)
+    (λ c. rw (← (c .before .before .before .descriptors-end .ensures .0)) (located-by _ _ _ _ 0 (c .before .surveyed-from .ensures) (c .located-of .ensures) ∙ leaves _ 7 _ _ (omega (arith, tests)))))

@@ -1,12 +1,12 @@
--- `group_fields::fields_located` meets its contract. Assumes nothing.
+-- `group_fields::fields_surveyed` meets its contract. Assumes nothing.
 use Rattle.laws.specs.Accepting.{laid}
 use Rattle.group_fields.proofs.Order.{fields-short, fields-there}
 use borrow.Author.Needs.{needs}
-use Rattle.group_fields.proofs.fields_located.Statement.{statement}
-use Rattle.group_fields.proofs.fields_located.Tie as tie
+use Rattle.group_fields.proofs.fields_surveyed.Statement.{statement}
+use Rattle.group_fields.proofs.fields_surveyed.Tie as tie
 
-pub fields-located-spec : {M : Type 1} → statement M
-fields-located-spec =
+pub fields-surveyed-spec : {M : Type 1} → statement M
+fields-surveyed-spec =
     tie.close
     (tie.spec
     (λ c κs. search needs)

@@ -1,0 +1,13 @@
+-- `groups::held_group` meets its contract. Assumes nothing.
+use borrow.Author.Needs.{needs}
+use Rattle.groups.proofs.held_group.Statement.{statement}
+use Rattle.groups.proofs.held_group.Tie as tie
+
+pub held-group-spec : {M : Type 1} → statement M
+held-group-spec =
+    tie.close
+    (tie.spec
+    (λ c κs. search needs)
+    (λ c κs. search needs)
+    (λ c. search needs)
+    (λ c. cc))
