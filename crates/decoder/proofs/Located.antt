@@ -1,11 +1,12 @@
 -- What is decided from where the parts are on is what document 01's rows decide. Assumes nothing.
 use mathlib.Core.Path.{_≡_, refl, sym, ap, _∙_}
-use mathlib.Core.List.{List, _++_, flatMap}
-use Prim.Native.Nat.{ℕ, _*_, _/_, _^_, _≤_, _<_}
+use mathlib.Core.List.{List, [], _∷_, _++_, flatMap}
+use Prim.Native.Nat.{ℕ, _*_, _/_, _≤_, _<_}
 use native.Mathlib.Omega.{arith}
+use lib.Dec.{ltb}
 use lib.ListN.{length}
 use Rattle.format.specs.Lists.{_over_}
-use Rattle.format.specs.Refusals.{Row, first, limit, countRefusals, roomRefusals, Left, left}
+use Rattle.format.specs.Refusals.{Row, _gives_, first, refusalNumber, countRefusals, roomRefusals, Left, left}
 use Rattle.format.specs.Layout.{pointSize, pointOctets}
 use Rattle.format.specs.Template.{kindRefusals, descriptorsEnd}
 use Rattle.format.specs.Unpacking.{codesOf, pointsBefore, bitsBefore, placesOf, saidBy, pointsUpTo, locatedRefusals, locatedBy, locate52, unpack52}
@@ -20,25 +21,22 @@ use Rattle.format.specs.declared.Located.the-variants as located
 use Rattle.format.specs.declared.Unpacked.{Unpacked}
 use Rattle.format.specs.declared.Unpacked.the-variants as unpacked
 use Rattle.laws.specs.Accepting.{Laid, FoundIn, found-52, found-53}
-use Rattle.laws.specs.First.{first-joined, first-through, passed, decides, clears, tests}
+use Rattle.laws.specs.First.{Gives, Clear, gives-front, first-joined, first-through, passed, decides, clears, tests}
 use Rattle.complex.specs.Room.{Roomy}
 use Rattle.decoder.specs.Deciding.{lastRefusals, decidedIn}
 
 -- ---- 9, then 10
 
-module _ (declared room : ℕ) {x : Located} {places : Places} {points n : ℕ} (e : x ≡ located.At places points) (en : (n ≡ declared) × (n < 2 ^ 32)) where
-  pub decided-other : (points ≡ n → ⊥) → located.Refused Points ≡ decidedIn declared room x
-  decided-other h = let other : points ≡ declared → ⊥ = λ z. h (omega arith) in rw e (decides located.Refused Points _ _ (omega (arith, tests, other)))
+module _ (declared room : ℕ) {x : Located} {places : Places} {points : ℕ} (e : x ≡ located.At places points) where
+  pub decided-other : Gives (refusalNumber Points) (countRefusals points declared) → located.Refused Points ≡ decidedIn declared room x
+  decided-other h = rw e (decides located.Refused Points _ _ (gives-front (refusalNumber Points) (countRefusals points declared) (ltb room declared gives Room ∷ []) h))
 
-  module _ (same : points ≡ n) where
-    pub decided-many : limit < declared → located.Refused Points ≡ decidedIn declared room x
-    decided-many l = rw e (decides located.Refused Points _ _ (omega (arith, tests)))
+  module _ (clear : Clear (countRefusals points declared)) where
+    pub decided-short : room < points → located.Refused Room ≡ decidedIn declared room x
+    decided-short h = rw e (decides located.Refused Room _ _ (omega (arith, tests)))
 
-    pub decided-short : declared ≤ limit → room < points → located.Refused Room ≡ decidedIn declared room x
-    decided-short l h = rw e (decides located.Refused Room _ _ (omega (arith, tests)))
-
-    pub decided-right : declared ≤ limit → points ≤ room → located.At places points ≡ decidedIn declared room x
-    decided-right l h = rw e (clears located.Refused _ _ (omega (arith, tests)))
+    pub decided-right : points ≤ room → located.At places points ≡ decidedIn declared room x
+    decided-right h = rw e (clears located.Refused _ _ (omega (arith, tests)))
 
 -- ---- the rows of an operation
 

@@ -28,10 +28,7 @@ fn decided(located: Located, declared: u32, room: usize) -> Located
     let Located::At(places, count) = located else {
         return located;
     };
-    if count != places::size(declared) {
-        return Located::Refused(Refusal::Points);
-    }
-    if format::LIMIT < declared {
+    if group_fields::is_miscounted(count, declared) {
         return Located::Refused(Refusal::Points);
     }
     if room < count {

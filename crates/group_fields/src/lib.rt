@@ -1,13 +1,17 @@
 // Group fields under 5.2 and 5.3: where the parts are, what the groups come to, which of them holds a place of the list, and
 // the first refusal that applies, as far as 7 for the values.
 ghost use mathlib.Core.Path.{_≡_};
+ghost use mathlib.Core.Bool.{true, false};
 ghost use mathlib.Core.List.{_++_};
 ghost use Prim.Native.Nat.{_≤_};
 ghost use lib.ListN.{length};
+ghost use Rattle.format.specs.Refusals.{refusalNumber, countRefusals};
 ghost use Rattle.format.specs.Template.{descriptorsEnd};
 ghost use Rattle.format.specs.Unpacking.{fieldsShort, groupRefusals, locatedRefusals, locate52, partOf};
 ghost use Rattle.format.specs.Differences.{locate53};
+ghost use Rattle.format.specs.declared.Refusal.the-variants.{Points};
 ghost use Rattle.laws.specs.Accepting.{Passing, Laid};
+ghost use Rattle.laws.specs.First.{Clear, Gives};
 ghost use Rattle.group_fields.specs.Parts.{boundsOf, OrderedIn};
 ghost use Rattle.group_fields.specs.Surveying.{surveyedIn, survey52, locatedOf};
 use format::Differencing;
@@ -163,6 +167,13 @@ pub fn located_spatial(template: Template, differencing: Differencing, payload: 
         return Located::Refused(Refusal::Short);
     }
     located_of(surveyed_from(template, start, payload, 0))
+}
+
+// 9: "points do not equal the declared count, or that count is above 4,194,304".
+pub fn is_miscounted(points: usize, declared: u32) -> bool
+    ensures { λ r. ⌜ (r ≡ true → Gives (refusalNumber Points) (countRefusals points declared)) × (r ≡ false → Clear (countRefusals points declared)) ⌝ }
+{
+    points != places::size(declared) || format::LIMIT < declared
 }
 
 // Where a part begins and ends; a payload that is refused has none.
