@@ -9,14 +9,14 @@ use lib.Dec.{eqb, ltb, leb}
 use lib.ListN.{length, getD, length-append, List·getD-append}
 use lib.Seq.{getD-append-add}
 use lib.IntN.{pos, negsuc}
-use Rattle.format.specs.Lists.{listed, joined, anyOf}
+use Rattle.format.specs.Lists.{listed, total, joined, anyOf}
 use Rattle.format.specs.Bits.{numberAt}
-use Rattle.format.specs.Unpacking.{Codes, codesOf, referenceOf, groupWidth, groupLength, wrongGroup, saidBy, isMissing1, isMissing2, decoded, pointOf, pointAt, pointsUpTo}
+use Rattle.format.specs.Unpacking.{Codes, codesOf, referenceOf, groupWidth, groupLength, pointsBefore, bitsBefore, wrongGroup, saidBy, isMissing1, isMissing2, decoded, pointOf, pointAt, pointsUpTo}
 use Rattle.format.specs.declared.Template.{Template}
 use Rattle.format.specs.declared.DecodedValue.{DecodedValue}
 use Rattle.format.specs.declared.DecodedValue.the-variants.{Normal, Missing1, Missing2}
 use Rattle.laws.specs.Lists.{length-listed, getD-listed, any-none, either-left}
-use Rattle.laws.specs.Bits.{bit-lt, number-below}
+use Rattle.laws.specs.Bits.{product, bit-lt, number-below}
 use Rattle.laws.specs.Points.{valuePlace, point-read}
 
 -- a packed point as unpacking leaves it: a number of up to 32 bits, or missing
@@ -99,3 +99,12 @@ module _ (start : ℕ) (t : Template) (payload : List ℕ) (low : t .width ≤ 3
     small-points =
         small-joined (t .groups) _
         (λ g l. small-listed (groupLength t (codesOf start t payload) g) (pointAt t (saidBy start t payload) g) (small-at g l))
+
+-- ---- the bits of all values before a group
+
+-- are at most 31 for each point
+pub bits-low : (t : Template) (codes : Codes) → NoneWrong t codes → (g : ℕ) → g ≤ t .groups → bitsBefore t codes g ≤ pointsBefore t codes g * 31
+unfolding bitsBefore pointsBefore total
+bits-low t codes h zero l = omega arith
+bits-low t codes h (suc g) l =
+    omega (arith, bits-low t codes h g (omega arith), product (groupLength t codes g) (groupWidth t codes g) (groupLength t codes g) 31 (omega arith) (width-low t codes h g (omega arith)))

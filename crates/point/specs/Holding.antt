@@ -1,0 +1,24 @@
+-- The group that holds a place of the list. Assumes nothing.
+use Prim.Native.Nat.{ℕ}
+use mathlib.Core.List.{List}
+use lib.ListN.{length}
+use Rattle.format.specs.Refusals.{first}
+use Rattle.format.specs.Template.{valuesAt}
+use Rattle.format.specs.Unpacking.{codesOf}
+use Rattle.format.specs.Point.{pointRefusals}
+use Rattle.format.specs.declared.Template.{Template}
+use Rattle.groups.specs.Packed.{heldGroup}
+use Rattle.groups.specs.Walk.{nearestOf}
+use Rattle.groups.specs.declared.HeldGroup.{HeldGroup}
+use Rattle.point.specs.declared.Held.{Held}
+use Rattle.point.specs.declared.Held.the-variants as held
+
+-- of a payload under 5.2, the last group that begins at the place or before it
+abbrev pub holder52 : ℕ → Template → List ℕ → HeldGroup
+holder52 place t payload =
+    let codes = codesOf 0 t payload in
+    heldGroup t codes (valuesAt 0 t) (nearestOf t codes place (t .groups))
+
+abbrev pub held52 : ℕ → Template → ℕ → List ℕ → Held
+held52 place t declared payload =
+    first held.Refused (pointRefusals place t declared (length payload) (codesOf 0 t payload)) (held.Group (holder52 place t payload))
