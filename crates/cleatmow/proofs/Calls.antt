@@ -2,18 +2,23 @@
 use mathlib.Core.Path.{_≡_, sym, ap, _∙_}
 use mathlib.Core.List.{List}
 use Prim.Native.Nat.{ℕ}
+use lib.IntN.{ℤ}
 use Rattle.format.specs.Refusals.{Left, left, refusalNumber, unpackedNumber}
 use Rattle.format.specs.declared.Refusal.{Refusal}
+use Rattle.format.specs.Layout.{markOf, heldBy}
 use Rattle.format.specs.Unpacking.{unpack52}
 use Rattle.format.specs.Differences.{unpack53}
 use Rattle.format.specs.Packing.{LeftPacked}
 use Rattle.format.specs.declared.OctetPlace.{OctetPlace}
 use Rattle.format.specs.declared.Packed.{Packed}
 use Rattle.format.specs.declared.Packed.the-variants as packed
+use Rattle.format.specs.declared.DecodedValue.{DecodedValue}
+use Rattle.format.specs.declared.Picked.{Picked}
+use Rattle.format.specs.declared.Picked.the-variants as picked
 use Rattle.format.specs.declared.Template.{Template}
 use Rattle.format.specs.declared.Differencing.{Differencing}
 use Rattle.format.specs.declared.Unpacked.{Unpacked}
-use Rattle.cleatmow.specs.Calls.{called, calledPack}
+use Rattle.cleatmow.specs.Calls.{called, calledPoint, calledPack}
 
 pub called-is : {Answer : Type 0} (number : Answer → ℕ) (outcome : Left Answer) {answer : Answer} {buffer : List ℕ} {n : ℕ}
     → left answer buffer ≡ outcome → n ≡ number answer → left n buffer ≡ called number outcome
@@ -33,6 +38,15 @@ module _ (declared : ℕ) (payload lent : List ℕ) (asked : Template) {t : Temp
 
   pub spatial-called : (d : Differencing) → left answer buffer ≡ unpack53 t d declared payload lent → left n buffer ≡ called unpackedNumber (unpack53 asked d declared payload lent)
   spatial-called d e = called-is unpackedNumber (unpack53 asked d declared payload lent) (rw et at e) en
+
+module _ (outcome : Picked) (mark : ℕ) (number : ℤ) {picks : Picked} (e : picks ≡ outcome) where
+  pub point-refused : {r : Refusal} {n : ℕ} → picks ≡ picked.Refused r → n ≡ refusalNumber r
+      → record { answer = n; mark = mark; number = number } ≡ calledPoint outcome mark number
+  point-refused d en = rw (← e, d, en)
+
+  pub point-done : {point : DecodedValue} {m : ℕ} {z : ℤ} → picks ≡ picked.Point point → m ≡ markOf point → z ≡ heldBy point
+      → record { answer = 0; mark = m; number = z } ≡ calledPoint outcome mark number
+  point-done d em ez = rw (← e, d, em, ez)
 
 module _ (outcome : LeftPacked) {answer : Packed} {groups payload summary : List ℕ}
     (e : record { answer = answer; groups = groups; payload = payload; summary = summary } ≡ outcome) where

@@ -1,9 +1,13 @@
 -- What a C call comes to. Assumes nothing.
-use Rattle.format.specs.declared.Differencing.{Differencing}
 use Prim.Native.Nat.{ℕ}
 use mathlib.Core.List.{List}
-use Rattle.format.specs.Refusals.{Left, left, packedNumber}
+use lib.IntN.{ℤ}
+use Rattle.format.specs.Layout.{markOf, heldBy}
+use Rattle.format.specs.Refusals.{Left, left, pickedNumber, packedNumber}
 use Rattle.format.specs.Packing.{LeftPacked}
+use Rattle.format.specs.declared.Differencing.{Differencing}
+use Rattle.format.specs.declared.Picked.{Picked}
+use Rattle.format.specs.declared.Picked.the-variants as picked
 
 -- "The call returns the refusal's number, or 0.": its number for an answer, and the buffer as the operation left it
 abbrev pub called : {Answer : Type 0} → (Answer → ℕ) → Left Answer → Left ℕ
@@ -12,6 +16,17 @@ called number outcome = left (number (outcome .answer)) (outcome .buffer)
 -- the order and the octets of a descriptor
 abbrev pub givenDifferencing : ℕ → ℕ → Differencing
 givenDifferencing order octets = record { order = order; octets = octets }
+
+-- what the call for one point comes to: its number, and the two places that were lent for a point, as they are left
+pub record PointCall : Type 0 where
+  pub answer : ℕ
+  pub mark : ℕ
+  pub number : ℤ
+
+-- "one point (mark and number)"; a refusal leaves both places as they were
+abbrev pub calledPoint : Picked → ℕ → ℤ → PointCall
+calledPoint (picked.Point point) mark number = record { answer = pickedNumber (picked.Point point); mark = markOf point; number = heldBy point }
+calledPoint (picked.Refused r) mark number = record { answer = pickedNumber (picked.Refused r); mark = mark; number = number }
 
 -- what packing's call comes to: its number, and what was lent, as it is left
 pub record PackCall : Type 0 where

@@ -6,13 +6,15 @@ ghost use Rattle.format.specs.Template.{templateBy};
 ghost use Rattle.format.specs.Unpacking.{unpack52};
 ghost use Rattle.format.specs.Differences.{unpack53};
 ghost use Rattle.format.specs.Section5.{readSection5, writeSection5, unpackSection5};
+ghost use Rattle.format.specs.Point.{pointSection5};
 ghost use Rattle.format.specs.RunLength.{runLength};
 ghost use Rattle.format.specs.Layout.{numbersIn};
 ghost use Rattle.format.specs.Packing.{pack};
-ghost use Rattle.cleatmow.specs.Calls.{called, givenDifferencing, calledPack};
+ghost use Rattle.cleatmow.specs.Calls.{called, givenDifferencing, calledPoint, calledPack};
 use format::Differencing;
 use format::Fetched;
 use format::Packed;
+use format::Picked;
 use format::Refusal;
 use format::Stored;
 use format::Unpacked;
@@ -150,6 +152,27 @@ pub extern "C" fn cleatmow_unpack(section5: &[u8], payload: &[u8], points: &mut 
     ensures { λ r. ⌜ left r (now (points .exit)) ≡ called unpackedNumber (unpackSection5 (now (section5 .entry)) (now (payload .entry)) (now (points .entry))) ⌝ }
 {
     unpacked_number(decoder::unpack(section5, payload, points))
+}
+
+// One point of a payload under template 5.2, from its place in the list: its mark, and its number.
+#[no_mangle]
+pub extern "C" fn cleatmow_point(
+    place: u32,
+    section5: &[u8],
+    payload: &[u8],
+    mark: &mut u8,
+    number: &mut i64,
+) -> u32
+    ensures { λ r. ⌜ record { answer = r; mark = now (mark .exit); number = now (number .exit) } ≡ calledPoint (pointSection5 place (now (section5 .entry)) (now (payload .entry))) (now (mark .entry)) (now (number .entry)) ⌝ }
+{
+    match point::point(section5, payload, place) {
+        Picked::Refused(refusal) => refusal_number(refusal),
+        Picked::Point(point) => {
+            *mark = layout::mark_of(point);
+            *number = layout::held_by(point);
+            0
+        }
+    }
 }
 
 // Template 7.200: the levels of a payload, two octets each.

@@ -92,13 +92,24 @@ pub fn group_in(octets: &[u8], k: usize) -> Group
     }
 }
 
-fn mark_of(point: DecodedValue) -> u8
+pub fn mark_of(point: DecodedValue) -> u8
     ensures { λ r. ⌜ r ≡ markOf point ⌝ }
 {
     match point {
         DecodedValue::Normal(_) => 0,
         DecodedValue::Missing1 => 1,
         DecodedValue::Missing2 => 2,
+    }
+}
+
+// "a missing point holds number 0"
+pub fn held_by(point: DecodedValue) -> i64
+    ensures { λ r. ⌜ r ≡ heldBy point ⌝ }
+{
+    match point {
+        DecodedValue::Normal(number) => number,
+        DecodedValue::Missing1 => 0,
+        DecodedValue::Missing2 => 0,
     }
 }
 
@@ -112,15 +123,10 @@ fn twos_complement(number: i64) -> u64
     }
 }
 
-// "a missing point holds number 0", whose pattern is 0.
 fn pattern_of(point: DecodedValue) -> u64
     ensures { λ r. ⌜ r ≡ twosComplement (heldBy point) ⌝ }
 {
-    match point {
-        DecodedValue::Normal(number) => twos_complement(number),
-        DecodedValue::Missing1 => 0,
-        DecodedValue::Missing2 => 0,
-    }
+    twos_complement(held_by(point))
 }
 
 // Point k. A packed number's upper half is zero: stored by itself, and last but for the mark, each half is one store of the

@@ -9,18 +9,9 @@ use Rattle.layout.proofs.pattern_of.Tie as tie
 
 returns : tie.Need-returns
 returns c =
-    let number = c .before .before .point .given .0 .0 in
+    let number = c .before .held-by .result in
     let e : toZ w64 (ofZ w64 number) ≡ number = search needs in
-    rw (c .before .before .point .given .1) (c .twos-complement .ensures ∙ ap twosComplement e)
+    c .twos-complement .ensures ∙ ap twosComplement (e ∙ c .before .held-by .ensures)
 
 pub pattern-of-spec : {M : Type 1} → statement M
-pattern-of-spec =
-    tie.close
-    (tie.spec
-    (λ c. search needs)
-    (λ c κs. search needs)
-    (λ c. search needs)
-    (λ c. search needs)
-    returns
-    (λ c. search needs)
-    (λ c. search needs))
+pattern-of-spec = tie.close (tie.spec (λ c κs. search needs) (λ c κs. search needs) returns)
