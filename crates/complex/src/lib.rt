@@ -68,7 +68,7 @@ fn store_group_points(
     ensures { λ _. ⌜ now (points .exit) ≡ sets (now (points .entry)) (from * pointSize) (flatMap pointOctets (listed (group .length) (valuePoint template group (now (payload .entry)) (place .0)))) ⌝ }
 {
     if group.width == 0 {
-        let point = groups::point_of(template, group, 0);
+        let point = groups::point_of(template, group.width, group.reference, 0);
         store_same(points, from, group.length, point);
         return;
     }

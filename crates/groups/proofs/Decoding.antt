@@ -10,7 +10,6 @@ use Rattle.format.specs.Unpacking.{decoded, pointOf}
 use Rattle.format.specs.declared.Template.{Template}
 use Rattle.format.specs.declared.DecodedValue.{DecodedValue}
 use Rattle.format.specs.declared.DecodedValue.the-variants.{Normal, Missing1, Missing2}
-use Rattle.groups.specs.declared.PackedGroup.{PackedGroup}
 
 module _ (t : Template) (w v n : ℕ) where
   pub decoded-first : 0 < t .management → v ≡ 2 ^ w - 1 → Missing1 ≡ decoded t w v n
@@ -36,11 +35,11 @@ module _ (t : Template) (w v n : ℕ) where
 
 -- ---- in a group
 
-module _ (t : Template) (group : PackedGroup) (value : ℕ) {point : DecodedValue} where
-  pub point-width-0 : {width : ℕ} → group .width ≡ 0 → (width ≡ t .width) × (width < 256) → point ≡ decoded t width (group .reference) (group .reference) → point ≡ pointOf t (group .width) (group .reference) value
+module _ (t : Template) (width reference value : ℕ) {point : DecodedValue} where
+  pub point-width-0 : {n : ℕ} → width ≡ 0 → (n ≡ t .width) × (n < 256) → point ≡ decoded t n reference reference → point ≡ pointOf t width reference value
   unfolding pointOf
-  point-width-0 w ew e = e ∙ rw (ew .0) (simp (eq-eqb (group .width) 0 w))
+  point-width-0 w en e = e ∙ rw (en .0) (simp (eq-eqb width 0 w))
 
-  pub point-wide : (group .width ≡ 0 → ⊥) → point ≡ decoded t (group .width) value (value + group .reference) → point ≡ pointOf t (group .width) (group .reference) value
+  pub point-wide : (width ≡ 0 → ⊥) → point ≡ decoded t width value (value + reference) → point ≡ pointOf t width reference value
   unfolding pointOf
-  point-wide w e = e ∙ simp (ne-eqb (group .width) 0 w)
+  point-wide w e = e ∙ simp (ne-eqb width 0 w)

@@ -19,8 +19,12 @@ codedGroup t codes g = record { reference = referenceOf codes g; width = groupWi
 
 -- the group that a walk stands at, where the values of all begin at that octet
 abbrev pub heldGroup : Template → Codes → ℕ → Walk → HeldGroup
-heldGroup t codes values walk =
-    record { group = codedGroup t codes (walk .group); first = walk .points; values = record { 0 = values * 8 + walk .bits } }
+heldGroup t codes values walk = record {
+  reference = referenceOf codes (walk .group);
+  width = groupWidth t codes (walk .group);
+  first = walk .points;
+  values = record { 0 = values * 8 + walk .bits };
+}
 
 -- point k of a group whose values begin at bit p
 unfoldable pub valuePoint : Template → PackedGroup → List ℕ → ℕ → ℕ → DecodedValue

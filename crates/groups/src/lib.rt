@@ -25,9 +25,10 @@ pub struct PackedGroup {
     pub length: usize,
 }
 
-// A group that holds a place of the list: what it is, the place of its first point, and where its values begin.
+// A group that holds a place of the list: its reference, its width, the place of its first point, and where its values begin.
 pub struct HeldGroup {
-    pub group: PackedGroup,
+    pub reference: u32,
+    pub width: usize,
     pub first: usize,
     pub values: BitPlace,
 }
@@ -132,10 +133,10 @@ pub fn held_group(template: Template, payload: &[u8], places: Places, walk: Walk
     requires { ⌜ Laid template places × (walk .group < template .groups) × (walk .bits < 2 ^ 62) ⌝ }
     ensures { λ r. ⌜ r ≡ heldGroup template (codesOf (places .references .0) template (now (payload .entry))) (places .values .0) walk ⌝ }
 {
-    let group = read_group(template, payload, places, walk.group);
     let values = BitPlace(places::first_bit(places.values).0 + walk.bits);
     HeldGroup {
-        group,
+        reference: reference_of(template, payload, places, walk.group),
+        width: width_of(template, payload, places, walk.group),
         first: walk.points,
         values,
     }
@@ -193,15 +194,19 @@ fn decoded(template: Template, width: usize, value: u32, number: u32) -> Decoded
 
 // A value's point. "In a group of width 0 the same tests apply to the reference at the number width, and the number is the
 // reference."
-pub fn point_of(template: Template, group: PackedGroup, value: u32) -> DecodedValue
-    requires { ⌜ (template .width ≤ 31) × (group .width ≤ 31) × (group .reference < 2 ^ 31) × (value < 2 ^ 31) ⌝ }
-    ensures { λ r. ⌜ r ≡ pointOf template (group .width) (group .reference) value ⌝ }
+pub fn point_of(template: Template, width: usize, reference: u32, value: u32) -> DecodedValue
+    requires { ⌜ (template .width ≤ 31) × (width ≤ 31) × (reference < 2 ^ 31) × (value < 2 ^ 31) ⌝ }
+    ensures { λ r. ⌜ r ≡ pointOf template width reference value ⌝ }
 {
-    if group.width == 0 {
-        let width = places::small(template.width);
-        return decoded(template, width, group.reference, group.reference);
+    if width == 0 {
+        return decoded(
+            template,
+            places::small(template.width),
+            reference,
+            reference,
+        );
     }
-    decoded(template, group.width, value, value + group.reference)
+    decoded(template, width, value, value + reference)
 }
 
 // The point of a group whose value is at a place of its own.
@@ -215,9 +220,6 @@ pub fn point_at(
     requires { ⌜ (template .width ≤ 31) × (group .width ≤ 31) × (group .reference < 2 ^ 31) × (there ≡ true → place .0 / 8 + 8 ≤ length (now payload)) × (there ≡ true → 0 < group .width) ⌝ }
     ensures { λ r. ⌜ r ≡ pointOf template (group .width) (group .reference) (numberAt (now (payload .entry)) (place .0) (group .width)) ⌝ }
 {
-    point_of(
-        template,
-        group,
-        value_at(payload, place, group.width, there),
-    )
+    let value = value_at(payload, place, group.width, there);
+    point_of(template, group.width, group.reference, value)
 }

@@ -1,7 +1,7 @@
 -- The point of a group that holds the place is the answer. Assumes nothing.
 use mathlib.Core.Path.{_≡_, refl, sym, ap, _∙_}
 use mathlib.Core.List.{List}
-use Prim.Native.Nat.{ℕ, _+_, _-_, _^_, _≤_, _<_}
+use Prim.Native.Nat.{ℕ, _^_, _≤_, _<_}
 use native.Mathlib.Omega.{arith}
 use lib.ListN.{length, getD}
 use Rattle.format.specs.Refusals.{Row}
@@ -20,13 +20,11 @@ use Rattle.format.specs.declared.Picked.{Picked}
 use Rattle.format.specs.declared.Picked.the-variants as picked
 use Rattle.laws.specs.Accepting.{Counted}
 use Rattle.laws.specs.First.{Clear, first-through, passed}
-use Rattle.laws.specs.Points.{Holds}
 use Rattle.groups.specs.declared.HeldGroup.{HeldGroup}
-use Rattle.groups.specs.Packed.{valuePoint, Limited}
-use Rattle.point.specs.Holding.{holder52, held52}
+use Rattle.point.specs.Holding.{Holding, heldPoint, holder52, held52}
 use Rattle.point.specs.declared.Held.{Held}
 use Rattle.point.specs.declared.Held.the-variants as held
-use Rattle.point.proofs.Holding.{holds, limited, point-is, passes, below}
+use Rattle.point.proofs.Holding.{holding, point-is, passes, below}
 
 -- the point at the place, whichever group holds it
 abbrev pickedOf : ℕ → Template → List ℕ → Held → Picked
@@ -58,13 +56,11 @@ module _ (place : ℕ) (t : Template) (declared : ℕ) (payload : List ℕ) {y :
     low : place < declared
     low = below place t declared payload (accepted .0)
 
-    pub point-asked : (t .width ≤ 31) × Limited (h .group) (h .values .0) × (h .first ≤ n) × (n < h .first + h .group .length)
+    pub point-asked : (t .width ≤ 31) × Holding h n
     point-asked =
-        let holder = holds place t declared payload (counts .right) (counts .count) (counts .few) low in
-        rw (same, en .0)
-        (counts .passing .width, limited place t declared payload (counts .right) (counts .count) (counts .few) low (counts .passing), holder .begins, holder .ends)
+        rw (same, en .0) (counts .passing .width, holding place t declared payload (counts .right) (counts .count) (counts .few) low (counts .passing))
 
-    pub point-done : {point : DecodedValue} → point ≡ valuePoint t (h .group) payload (h .values .0) (n - h .first) → picked.Point point ≡ point52 place t declared payload
+    pub point-done : {point : DecodedValue} → point ≡ heldPoint t h payload n → picked.Point point ≡ point52 place t declared payload
     point-done ep =
         ap picked.Point (ep ∙ rw (same, en .0) (point-is place t declared payload (counts .right) (counts .count) (counts .few) low)) ∙ rw e at picked-is
 

@@ -18,8 +18,7 @@ use Rattle.laws.specs.First.{Clear, clear-front, clear-later}
 use Rattle.laws.specs.Points.{points-within, point-placed, point-read, holderOf, Holds, held}
 use Rattle.laws.specs.Small.{NoneWrong, width-low, reference-low, bits-low}
 use Rattle.groups.specs.declared.HeldGroup.{HeldGroup}
-use Rattle.groups.specs.Packed.{valuePoint, Limited}
-use Rattle.point.specs.Holding.{holder52}
+use Rattle.point.specs.Holding.{holder52, Holding, heldPoint}
 
 module _ (place : ℕ) (t : Template) (declared : ℕ) (payload : List ℕ) where
   abbrev codes : Codes
@@ -45,16 +44,17 @@ module _ (place : ℕ) (t : Template) (declared : ℕ) (payload : List ℕ) wher
     unfolding placesOf
     values-low passing = laid 0 0 {p = placesOf 0 t 0} passing (omega arith) refl .values-low
 
-    pub limited : Passing t → Limited (holder .group) (holder .values .0)
-    limited passing = record {
+    pub holding : Passing t → Holding holder place
+    holding passing = record {
       reference = reference-low 0 t payload (passing .width) g (holds .among);
       width = width-low t codes right g (holds .among);
-      length = omega (arith, within);
-      place = omega (arith, bits-few, values-low passing);
+      values = omega (arith, bits-few, values-low passing);
+      begins = holds .begins;
+      near = omega (arith, holds .ends, within);
     }
 
-    pub point-is : valuePoint t (holder .group) payload (holder .values .0) (place - holder .first) ≡ getD (pointsUpTo t (saidBy 0 t payload) (t .groups)) place Missing1
-    unfolding valuePoint saidBy
+    pub point-is : heldPoint t holder payload place ≡ getD (pointsUpTo t (saidBy 0 t payload) (t .groups)) place Missing1
+    unfolding heldPoint saidBy
     point-is =
         let k : ℕ = place - pointsBefore t codes g in
         let at : pointsBefore t codes g + k ≡ place = omega (arith, holds .begins) in

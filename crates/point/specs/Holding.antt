@@ -1,17 +1,32 @@
 -- The group that holds a place of the list. Assumes nothing.
-use Prim.Native.Nat.{ℕ}
+use Prim.Native.Nat.{ℕ, _+_, _-_, _*_, _^_, _≤_, _<_}
 use mathlib.Core.List.{List}
 use lib.ListN.{length}
-use Rattle.format.specs.Refusals.{first}
+use Rattle.format.specs.Bits.{numberAt}
+use Rattle.format.specs.Refusals.{first, limit}
 use Rattle.format.specs.Template.{valuesAt}
-use Rattle.format.specs.Unpacking.{codesOf}
+use Rattle.format.specs.Unpacking.{codesOf, pointOf}
 use Rattle.format.specs.Point.{pointRefusals}
 use Rattle.format.specs.declared.Template.{Template}
+use Rattle.format.specs.declared.DecodedValue.{DecodedValue}
 use Rattle.groups.specs.Packed.{heldGroup}
 use Rattle.groups.specs.Walk.{nearestOf}
 use Rattle.groups.specs.declared.HeldGroup.{HeldGroup}
 use Rattle.point.specs.declared.Held.{Held}
 use Rattle.point.specs.declared.Held.the-variants as held
+
+-- a group within document 01's limits that holds a place
+pub record Holding (h : HeldGroup) (place : ℕ) : Type 0 where
+  pub reference : h .reference < 2 ^ 31
+  pub width : h .width ≤ 31
+  pub values : h .values .0 < 2 ^ 62
+  pub begins : h .first ≤ place
+  pub near : place < h .first + limit
+
+-- the point there, of its own bits
+unfoldable pub heldPoint : Template → HeldGroup → List ℕ → ℕ → DecodedValue
+heldPoint t h payload place =
+    pointOf t (h .width) (h .reference) (numberAt payload (h .values .0 + (place - h .first) * h .width) (h .width))
 
 -- of a payload under 5.2, the last group that begins at the place or before it
 abbrev pub holder52 : ℕ → Template → List ℕ → HeldGroup

@@ -1,10 +1,9 @@
 // Document 02, No. 3: one point of a map under 5.2, from its place in the list. The group that holds the place is found, and
 // of it one reference and one value are read. Nothing is lent.
 ghost use mathlib.Core.Path.{_≡_};
-ghost use Prim.Native.Nat.{_+_, _-_, _≤_, _<_};
+ghost use Prim.Native.Nat.{_≤_};
 ghost use Rattle.format.specs.Point.{point52, pointSection5};
-ghost use Rattle.groups.specs.Packed.{valuePoint, Limited};
-ghost use Rattle.point.specs.Holding.{held52};
+ghost use Rattle.point.specs.Holding.{held52, Holding, heldPoint};
 use format::BitPlace;
 use format::DecodedValue;
 use format::Named;
@@ -40,12 +39,12 @@ pub fn held_complex(template: Template, declared: u32, payload: &[u8], place: u3
 
 // The point at a place of the list, in the group that holds it.
 fn point_in(template: Template, payload: &[u8], held: HeldGroup, place: usize) -> DecodedValue
-    requires { ⌜ (template .width ≤ 31) × Limited (held .group) (held .values .0) × (held .first ≤ place) × (place < held .first + held .group .length) ⌝ }
-    ensures { λ r. ⌜ r ≡ valuePoint template (held .group) (now (payload .entry)) (held .values .0) (place - held .first) ⌝ }
+    requires { ⌜ (template .width ≤ 31) × Holding held place ⌝ }
+    ensures { λ r. ⌜ r ≡ heldPoint template held (now (payload .entry)) place ⌝ }
 {
-    let group = held.group;
-    let value = BitPlace(held.values.0 + places::times(place - held.first, group.width));
-    groups::point_at(template, payload, value, group, false)
+    let at = BitPlace(held.values.0 + places::times(place - held.first, held.width));
+    let value = stream::read_number(payload, at, held.width);
+    groups::point_of(template, held.width, held.reference, value)
 }
 
 // Template 5.2: "answer one point (mark and number) from its place in the list".
