@@ -23,7 +23,7 @@
 //! # Ok::<(), Box<dyn std::error::Error>>(())
 //! ```
 //!
-//! One point of a map under template 5.2 is read by its place, without the map:
+//! One point of a map under template 5.2 is read from its place in the list, and the map is not unpacked:
 //!
 //! ```
 //! use cleatmow::{point, Point, Refusal};

@@ -271,9 +271,9 @@ static int unpack(void) {
     return 0;
 }
 
-/* A Section 5 of template 5.2 with these numbers, and its other numbers as in complex5. */
+/* complex5 with other numbers. */
 static const uint8_t *section5_of(uint8_t declared, uint8_t width, uint8_t splitting, uint8_t missing, uint8_t groups,
-    uint8_t reference) {
+    uint8_t reference, uint8_t width_bits) {
     static uint8_t octets[sizeof complex5];
     memcpy(octets, complex5, sizeof octets);
     octets[8] = declared;
@@ -282,6 +282,7 @@ static const uint8_t *section5_of(uint8_t declared, uint8_t width, uint8_t split
     octets[22] = missing;
     octets[34] = groups;
     octets[35] = reference;
+    octets[36] = width_bits;
     return octets;
 }
 
@@ -290,8 +291,8 @@ static int point(void) {
     uint8_t marks[] = {0xEE, 0xEE, 0xEE};
     int64_t numbers[] = {-1, -1, -1};
 
-#define POINT(place, declared, width, splitting, missing, groups, reference, len) cleatmow_point( \
-    place, section5_of(declared, width, splitting, missing, groups, reference), 47, payload, len, marks + 1, numbers + 1)
+#define POINT(place, declared, width, splitting, missing, groups, reference, len) cleatmow_point(place, \
+    section5_of(declared, width, splitting, missing, groups, reference, 1), 47, payload, len, marks + 1, numbers + 1)
     EXPECT(cleatmow_point(0, complex5, 46, payload, 3, marks + 1, numbers + 1) == CLEATMOW_REFUSAL_SECTION5);
     EXPECT(cleatmow_point(0, spatial5, 49, payload, 3, marks + 1, numbers + 1) == CLEATMOW_REFUSAL_SECTION5);
     EXPECT(cleatmow_point(0, NULL, 0, NULL, 0, marks + 1, numbers + 1) == CLEATMOW_REFUSAL_SECTION5);
@@ -318,16 +319,10 @@ static int point(void) {
     EXPECT(POINT(2, 4, 3, 1, 1, 2, 0, 3) == 0 && marks[1] == 0 && numbers[1] == 5);
     EXPECT(marks[0] == 0xEE && marks[2] == 0xEE && numbers[0] == -1 && numbers[2] == -1);
 
-    /* An empty payload, as a null pointer: one group of width 0, of the one point that is declared. */
-    EXPECT(cleatmow_point(0, section5_of(1, 0, 1, 0, 1, 0), 47, NULL, 0, marks + 1, numbers + 1)
-        == CLEATMOW_REFUSAL_SHORT);
+    /* An empty payload, as a null pointer: one group of one point, of number width 0 and width 0. */
     marks[1] = 0xEE;
-    {
-        uint8_t zeros[sizeof complex5];
-        memcpy(zeros, section5_of(1, 0, 1, 0, 1, 0), sizeof zeros);
-        zeros[36] = 0;
-        EXPECT(cleatmow_point(0, zeros, 47, NULL, 0, marks + 1, numbers + 1) == 0 && marks[1] == 0 && numbers[1] == 0);
-    }
+    EXPECT(cleatmow_point(0, section5_of(1, 0, 1, 0, 1, 0, 0), 47, NULL, 0, marks + 1, numbers + 1) == 0);
+    EXPECT(marks[1] == 0 && numbers[1] == 0);
     return 0;
 }
 

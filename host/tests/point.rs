@@ -36,6 +36,11 @@ impl Map {
         Map::new(&section5::of_map(input, &mut Numbers::new(3)), &input.payload)
     }
 
+    /// Its refusal as far as 9, or 0.
+    fn refusal(&self) -> u32 {
+        self.right.as_ref().map_or_else(|number| *number, |_| 0)
+    }
+
     /// The declared count.
     fn declared(&self) -> u32 {
         section5::fields(&self.section5).map_or(0, |fields| fields[2])
@@ -142,7 +147,7 @@ fn maps_by_other_writers() {
         let refusal = map.refusal.map_or(0, Refusal::number);
         let expected = if map.template == 3 { 14 } else { refusal };
         let read = Map::new(&map.section5_octets, &map.payload);
-        assert_eq!(read.right.as_ref().map_or_else(|number| *number, |_| 0), expected, "{}", map.id);
+        assert_eq!(read.refusal(), expected, "{}", map.id);
         for answer in read.hold_all() {
             answers[answer as usize] += 1;
         }
@@ -224,6 +229,25 @@ fn groups_of_no_points() {
     assert_eq!((maps, empty), (81 * 16 * 2 * 3, 16 * 2 * 3));
 }
 
+/// A width of 32 is 8 at every place, in whichever of three groups it is, though that one or any other has no points.
+#[test]
+fn widths_of_every_group() {
+    for (wide, shape) in (0..3).flat_map(|wide| (0..8).map(move |shape| (wide, shape))) {
+        for (width, expected) in [(31, 0), (32, 8)] {
+            let lengths: [usize; 3] = std::array::from_fn(|group| shape >> group & 1);
+            let groups = [0, 1, 2].map(|group| {
+                let width_code = if group == wide { width } else { 3 };
+                written(5, width_code, lengths[group] as u64, &vec![6; lengths[group]])
+            });
+            let template = template(4, 3, (0, 6), (0, 1, lengths[2] as u32, 1));
+            let payload = payload(&template, None, &[], &groups, 0);
+            let map = Map::of(&complex(template, lengths.iter().sum::<usize>() as u32, &payload));
+            assert_eq!(map.refusal(), expected, "group {wide} of {lengths:?}");
+            map.hold_all();
+        }
+    }
+}
+
 /// Maps of a few groups by chance, each declared as it is, one more and one fewer; and made ones of up to 200 points.
 #[test]
 fn maps_by_chance() {
@@ -287,6 +311,21 @@ fn limits() {
         assert_eq!(point(&one_group(MOST, MOST), &values[2..], place), Err(Refusal::Short));
         assert_eq!(point(&one_group(u32::MAX, MOST), &values, place), Err(Refusal::Short));
     }
+}
+
+/// Sums of points and of bits are exact: 2^32 and a little more does not come round to a little.
+#[test]
+fn sums_do_not_come_round() {
+    let hold = |template: Template, declared, payload: &[u8], expected| {
+        let map = Map::of(&complex(template, declared, payload));
+        assert_eq!(map.hold(&[0, 1, 2, 3, 1 << 31, u32::MAX]), [expected; 6], "{template:?}");
+    };
+    // Of width 0, 2^31 + 2^31 + 2 points; and 255 x 2^24 + 2^24 + 2 in the length of one group.
+    hold(template(0, 3, (0, 0), (1 << 31, 0, 2, 0)), 2, &[], 9);
+    hold(template(0, 2, (0, 0), ((1 << 24) + 2, 255, 0, 25)), 2, &[0x80, 0, 0, 0, 0, 0, 0], 8);
+    // The bits of 2^31 points of width 2; and of twice 2^28 points of width 16, and two more.
+    hold(template(0, 1, (2, 0), (0, 0, 1 << 31, 0)), 2, &[0xE4], 7);
+    hold(template(0, 3, (16, 0), (1 << 28, 0, 2, 0)), 2, &[1, 2, 3, 4], 7);
 }
 
 /// Three groups of one point, two and two, of widths 8, 0 and 7. The group fields take seven octets, the values three.

@@ -155,7 +155,7 @@ impl Map {
         Laid::new(self.grid(typed)?, points)
     }
 
-    /// Its own groups, where unpacking does not refuse it before it has looked at them.
+    /// Its own groups, where no call refuses it before it has looked at them.
     pub fn groups(&self) -> impl Iterator<Item = OwnGroup> + '_ {
         own_groups(&self.template, self.differences, self.payload())
     }
@@ -188,7 +188,7 @@ impl Map {
         format!("not applied: ({} + number x 2^{binary}) / 10^{decimal}", f32::from_bits(reference))
     }
 
-    /// What unpacking found in this map when it refused it, where that can be said.
+    /// What a call found in this map when it refused it, where that can be said.
     fn found(&self, refusal: Refusal) -> String {
         let template = &self.template;
         match (refusal, self.differences) {
