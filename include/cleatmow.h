@@ -161,7 +161,7 @@ uint32_t cleatmow_unpack(
     uint8_t *points, size_t points_len);
 
 /*
- * One point: reads the point at one place of a map under template 5.2, from the octets of its Section 5 and its payload.
+ * One point: reads the point at a place of a map under template 5.2, from the octets of its Section 5 and its payload.
  * It is the point that cleatmow_unpack leaves there. The map is not unpacked, and no room for it is needed.
  *
  * place         which point of the map's list; the first is 0

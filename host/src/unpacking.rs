@@ -38,8 +38,8 @@ pub fn unpack_into<'a>(section5: &[u8], payload: &[u8], lent: &'a mut [u8]) -> R
 ///
 /// # Errors
 ///
-/// [`Refusal::Section5`], for a Section 5 of template 5.3 too; then those of [`unpack_complex`] in their order, wherever
-/// in the map the fault is; and [`Refusal::Place`].
+/// [`Refusal::Section5`], for a Section 5 of template 5.3 too; then those of [`unpack_complex`] in their order,
+/// wherever in the map the fault is; and [`Refusal::Place`].
 pub fn point(section5: &[u8], payload: &[u8], place: u32) -> Result<Point, Refusal> {
     // No point has this mark: one that a call did not write is not taken for a number.
     let (mut mark, mut number) = (u8::MAX, 0);

@@ -1,5 +1,5 @@
-//! One point through the C call, against document 02, No. 3: every place of maps beside their full unpacking, the refusals
-//! and their order, the two values that are lent, what the answer depends on, and a plain model.
+//! One point through the C call, against document 02, No. 3: every place of maps beside their full unpacking, the
+//! refusals and their order, the two values that are lent, what the answer depends on, and a plain model.
 
 mod support;
 
@@ -46,9 +46,9 @@ impl Map {
         section5::fields(&self.section5).map_or(0, |fields| fields[2])
     }
 
-    /// Makes the call for each of these places, on both sections between guards, over a pattern and over its complement.
-    /// Holds its answers and all octets, read, lent and about them, to the model's, and the wrapper to the same. Answers
-    /// the numbers that were answered.
+    /// Makes the call for each of these places, on both sections between guards, over a pattern and over its
+    /// complement. Holds its answers and all octets, read, lent and about them, to the model's, and the wrapper to the
+    /// same. Answers the numbers that were answered.
     fn hold(&self, places: &[u32]) -> Vec<u32> {
         let Map { section5, payload, right } = self;
         let shown = |place: u32| format!("place {place} of {section5:02X?}, {payload:02X?}");
@@ -168,8 +168,8 @@ macro_rules! real {
     };
 }
 
-/// The continental United States, 739,297 points in 22,011 groups: the first place and the last, both sides of every 33rd
-/// boundary between groups, and places by chance. The other two are under 5.3.
+/// The continental United States, 739,297 points in 22,011 groups: the first place and the last, both sides of every
+/// 33rd boundary between groups, and places by chance. The other two are under 5.3.
 #[test]
 fn real_maps() {
     let map = real!("ndfd-conus-1073x689");
@@ -198,8 +198,9 @@ fn real_maps() {
     assert_eq!(real!("ndfd-puerto-rico-339x224").hold(&[0, 75_935, 75_936]), [14; 3]);
 }
 
-/// Groups of no points are passed over, wherever they stand and whatever their width is: four groups of lengths 0, 1 and 3
-/// and widths 0 and 3, under each missing management, with references and without. The last length code is another length's.
+/// Groups of no points are passed over, wherever they stand and whatever their width is: four groups of lengths 0, 1
+/// and 3 and widths 0 and 3, under each missing management, with references and without. The last length code is
+/// another length's.
 #[test]
 fn groups_of_no_points() {
     let mut chance = Numbers::new(40);
@@ -274,8 +275,8 @@ fn maps_by_chance() {
     assert!([0, 9, 15].iter().all(|number| answers[*number] > 5_000), "{answers:?}");
 }
 
-/// As many groups as there may be, of one point each, whose references are the octets of the payload; and as many points as
-/// there may be, in one group of one bit each.
+/// As many groups as there may be, of one point each, whose references are the octets of the payload; and as many
+/// points as there may be, in one group of one bit each.
 #[test]
 fn limits() {
     const MOST: u32 = 4_194_304;
@@ -377,8 +378,8 @@ const FAULTS: [(u32, Fault); 19] = [
     (15, |given| given.place += 5),
 ];
 
-/// "Refusals: 15 when the place is not below the declared count; it comes after 9": of any faults, up to three at once, the
-/// first is told, whatever the place is. Those of the last group are told at places before it too.
+/// "Refusals: 15 when the place is not below the declared count; it comes after 9": of any faults, up to three at once,
+/// the first is told, whatever the place is. Those of the last group are told at places before it too.
 #[test]
 fn refusals_come_in_their_order() {
     let input = three_groups();
@@ -444,8 +445,8 @@ fn headers_in_full() {
     assert_eq!(accepted, 1);
 }
 
-/// A payload that is cut anywhere before the last value's octet is too short, at every place; octets behind are not looked
-/// at. 8 stands between the refusals for the group fields and for the values, and 9 and 15 behind both.
+/// A payload that is cut anywhere before the last value's octet is too short, at every place; octets behind are not
+/// looked at. 8 stands between the refusals for the group fields and for the values, and 9 and 15 behind both.
 #[test]
 fn payloads_of_every_length() {
     let whole = three_groups();
@@ -473,8 +474,8 @@ struct Bits {
     own: Range<usize>,
     /// Those of its group's reference.
     reference: Range<usize>,
-    /// All others but width codes and length codes. The last length code, which nothing reads, is among them, and so are
-    /// pad bits and octets behind the last value.
+    /// All others but width codes and length codes. The last length code, which nothing reads, is among them, and so
+    /// are pad bits and octets behind the last value.
     free: Vec<usize>,
 }
 
@@ -504,9 +505,9 @@ impl Bits {
     }
 }
 
-/// "the answer depends only on the place, the template numbers, declared count, payload length, width and length codes, the
-/// point's group reference and the point's own bits: the other values may change freely." And these do change it: any of
-/// its own bits, and any bit of the reference, unless the value is a missing code. A refusal depends on neither.
+/// "the answer depends only on the place, the template numbers, declared count, payload length, width and length codes,
+/// the point's group reference and the point's own bits: the other values may change freely." And these do change it:
+/// any of its own bits, and any bit of the reference, unless the value is a missing code. A refusal depends on neither.
 #[test]
 fn other_bits_may_change_freely() {
     let mut chance = Numbers::new(100);

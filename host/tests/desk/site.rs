@@ -139,7 +139,7 @@ fn places_of_an_alternating_map() {
     }
 }
 
-/// A box of 16 MiB reads a point of a map whose points take 36. Where calls are emulated, the emulator alone needs more.
+/// A box of 16 MiB reads a point of a map whose points take 36. Where calls are emulated, the emulator needs more.
 #[cfg(target_arch = "x86_64")]
 #[test]
 fn a_box_without_room_for_the_map() {

@@ -43,7 +43,7 @@ trait Operation {
 
 /// What a call is given.
 trait Input: Debug {
-    /// What the places in memory of its lent buffers are multiples of: octets stand anywhere, a value of several does not.
+    /// What its lent buffers' places in memory are multiples of: octets stand anywhere, a value of several does not.
     const LENT_AT: usize = 1;
 
     /// The octets that it reads, for each of its buffers.

@@ -70,6 +70,7 @@ impl Input for Asked {
         let (section5, payload) = (section5.octets(), payload.octets());
         let (mark, number) = (&mut mark.octets()[0], value(number.octets()));
         let answer = call(self.place, section5, payload, mark, number);
+        // The wrapper answers the same.
         match point(section5, payload, self.place) {
             Ok(point) => assert_eq!((0, *mark, *number), (answer, point.mark(), point.number().unwrap_or(0))),
             Err(refusal) => assert_eq!(refusal, Refusal::from_number(answer).expect("a refusal")),

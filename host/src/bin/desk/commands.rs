@@ -66,7 +66,7 @@ fn note(sentence: &str) {
 pub fn point(asked: &Point, out: &mut impl Write) -> Result<(), Trouble> {
     let (map, mut lent) = (Map::named(&asked.map)?, Vec::new());
     let found = map.find(asked.grid, asked.place);
-    // A map that is refused says so before its grid is looked at: it is asked for its first point where the grid has none.
+    // A refused map says so before its grid is looked at: where that has no such place, the map is asked for its first.
     let index = found.as_ref().map_or(0, |(_, index)| *index);
     let read = match asked.lookahead {
         None => map.point(index)?,

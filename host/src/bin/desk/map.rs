@@ -143,8 +143,8 @@ impl Map {
         }
         let place = shown::count(u64::from(index) + 1);
         Trouble::host(format!(
-            "{}: point {place}, read by itself, is not what it is in the unpacked map: an internal error of the desk's, \
-             and no number is shown",
+            "{}: point {place}, read by itself, is not what it is in the unpacked map: an internal error of the \
+             desk's, and no number is shown",
             self.name
         ))
     }

@@ -1,5 +1,5 @@
-//! The groups of a map as its own payload has them, for a person to read. No point is made of them: points come from the
-//! calls alone.
+//! The groups of a map as its own payload has them, for a person to read. No point is made of them: points come from
+//! the calls alone.
 
 use crate::shown;
 use cleatmow::{Differences, Template};

@@ -1,5 +1,5 @@
-//! One point as document 02 says it in No. 3: "the answer equals that place in the full unpacking", which is the model's
-//! own. And the C call itself, whose two lent values no wrapper shows.
+//! One point as document 02 says it in No. 3: "the answer equals that place in the full unpacking", which is the
+//! model's own. And the C call itself, whose two lent values no wrapper shows.
 
 use super::{points, section5};
 
