@@ -1,13 +1,13 @@
 //! The benchmark: ours, through its C calls, and the Rust on the same map in one run. docs/PERFORMANCE.md says what is
 //! timed.
 //!
-//! `bench [OPERATION] [--points N]` times one operation or all, on maps of N points, 1,000,000 without the option. Those
-//! that begin with `real_` unpack the real maps of samples/, which have the points that they have. Those that begin
-//! with `section5_` unpack by the octets of Section 5, beside the call with typed numbers. Those that begin with
+//! `bench [OPERATION] [--points N]` times one operation or all, on maps of N points, 1,000,000 without the option.
+//! Those that begin with `real_` unpack the real maps of samples/, which have the points that they have. Those that
+//! begin with `section5_` unpack by the octets of Section 5, beside the call with typed numbers. Those that begin with
 //! `point_` read one point, the first of a map, the middle or the last, beside the unpacking of all of it. Those that
-//! begin with `pack_` pack numbers: a number after it is the lookahead, on the numbers of a made map; `real_` and a name is a real
-//! map, and the lookahead comes last; any other word names a list that is hard to group, at the greatest lookahead or,
-//! for `comb`, at the one that is hardest for it.
+//! begin with `pack_` pack numbers: a number after it is the lookahead, on the numbers of a made map; `real_` and a
+//! name is a real map, and the lookahead comes last; any other word names a list that is hard to group, at the greatest
+//! lookahead or, for `comb`, at the one that is hardest for it.
 //! With `--only-ours`, `--only-rust`, `--only-typed` or `--only-limit` it makes one call and times nothing, for a tool
 //! that counts instructions.
 //!
