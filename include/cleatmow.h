@@ -7,22 +7,23 @@
  * - answers 0, or the number of a refusal (enum cleatmow_refusal). Its comment lists the refusals in the order in which
  *   they are tested; the first that applies is the answer.
  * - takes a list of octets as a pointer and a length in octets. Spare octets short of a whole point, level, number,
- *   group or field are not used.
- * - leaves the places past its answer unchanged after success, and changes no buffer on a refusal unless its comment
- *   says so. It writes nowhere else.
+ *   group or field are not used. A pointer without a length is that of one value.
+ * - leaves the places past its answer unchanged after success, and changes no buffer and no value on a refusal unless
+ *   its comment says so. It writes nowhere else.
  * - keeps nothing and allocates nothing, so calls on buffers of their own may run at the same time.
  *
  * The caller's duties, which no call can test:
  * - behind each pointer stand as many octets as its length says. A pointer may be null only where its length is 0.
- * - a lent buffer overlaps no other argument, and nobody else uses it until the call returns.
+ * - behind a pointer without a length stands a value of its type; such a pointer is never null.
+ * - a lent buffer or value overlaps no other argument, and nobody else uses it until the call returns.
  */
 #ifndef CLEATMOW_H
 #define CLEATMOW_H
 
 /* The version of the calls and of this header. */
-#define CLEATMOW_VERSION "0.3.0"
+#define CLEATMOW_VERSION "0.4.0"
 #define CLEATMOW_VERSION_MAJOR 0
-#define CLEATMOW_VERSION_MINOR 3
+#define CLEATMOW_VERSION_MINOR 4
 #define CLEATMOW_VERSION_PATCH 0
 
 #include <stddef.h>
@@ -62,8 +63,11 @@ enum cleatmow_refusal {
        writing Section 5: a number that its octets do not hold */
     CLEATMOW_REFUSAL_NUMBERS = 13,
     /* Section 5: fewer octets or fields than its template has (fewer than eleven octets name none), a length that is
-       not its template's, a section number other than 5, or a template other than 5.2 and 5.3 */
-    CLEATMOW_REFUSAL_SECTION5 = 14
+       not its template's, a section number other than 5, or a template other than 5.2 and 5.3; for one point, other
+       than 5.2 */
+    CLEATMOW_REFUSAL_SECTION5 = 14,
+    /* one point: its place is not below the declared count */
+    CLEATMOW_REFUSAL_PLACE = 15
 };
 
 /* The greatest declared count. No call needs a buffer with room for more. */
@@ -155,6 +159,28 @@ uint32_t cleatmow_unpack(
     const uint8_t *section5, size_t section5_len,
     const uint8_t *payload, size_t payload_len,
     uint8_t *points, size_t points_len);
+
+/*
+ * One point: reads the point at a place of a map under template 5.2, from the octets of its Section 5 and its payload.
+ * It is the point that cleatmow_unpack leaves there. The map is not unpacked, and no room for it is needed.
+ *
+ * place         which point of the map's list; the first is 0
+ * section5      the octets of Section 5, from its first on. More than the template has are not looked at
+ * section5_len  how many octets there are
+ * payload       the octets of Section 7 after its five-octet header
+ * payload_len   how many octets the payload has
+ * mark          lent: one value, for the point's mark (0 number, 1 missing 1, 2 missing 2)
+ * number        lent: one value, for its number; 0 where it is missing
+ *
+ * Refusals, in this order: 14, for a Section 5 of template 5.3 too; 1, 2, 6, 5, 7 for the group fields, 8, 7 for the
+ * values, 9, as for cleatmow_unpack_complex, wherever in the map the fault is; 15. A refusal changes nothing.
+ * 0: the mark stands in `mark`, and the number in `number`.
+ */
+uint32_t cleatmow_point(
+    uint32_t place,
+    const uint8_t *section5, size_t section5_len,
+    const uint8_t *payload, size_t payload_len,
+    uint8_t *mark, int64_t *number);
 
 /*
  * Section 5: reads its fields. The numbers of its template are not judged; unpacking does that.

@@ -22,6 +22,8 @@ ALONE="pack_65535:pack pack_rising:pack pack_sawtooth:pack pack_patches:pack pac
     pack_doubling:pack pack_spikes:pack pack_comb:pack"
 # By the octets of Section 5, which is cleatmow_unpack, and the C call with typed numbers that stands beside it.
 BY_SECTION5="section5_complex:unpack_complex section5_spatial:unpack_spatial"
+# One point, which is cleatmow_point.
+ONE_POINT="point_first point_middle point_last point_conus_first point_conus_middle point_conus_last"
 # Of the made maps: enough for a steady count, and few enough for callgrind. The real ones have the points that they have.
 POINTS=100000
 
@@ -41,17 +43,20 @@ trap 'rm -rf "$folder"' EXIT
 trap 'exit 1' HUP INT TERM
 
 # counted OPERATION SIDE FUNCTION [DIGITS]: the points, and instructions a point inside the function, in the one call
-# that the side makes. So many digits stand after the point: one unless said.
+# that the side makes. So many digits stand after the point: one unless said. Where the program says that the call goes
+# through groups, it is the groups and instructions a group. `all` in place of digits asks for those of the whole call.
 counted() {
     valgrind --tool=callgrind --callgrind-out-file="$folder/counts" --toggle-collect="$3" \
         "$bench" "$1" --points "$POINTS" "--only-$2" >"$folder/said" 2>&1 || {
         cat "$folder/said" >&2
         return 1
     }
-    # No map is read for less than an instruction a point: the function was not found.
-    points=$(sed -n 's/.*: one call on \([0-9]*\) points$/\1/p' "$folder/said")
-    awk -v points="$points" -v digits="${4:-1}" '/^summary:/ { count = $2 }
-        END { if (points + 0 == 0 || count < points) exit 1; printf "%d %." digits "f\n", points, count / points }' \
+    # No map is read for less than an instruction a point, or a group: the function was not found.
+    units=$(sed -n 's/.*: one call on \([0-9]*\) [a-z]*$/\1/p' "$folder/said")
+    awk -v units="$units" -v digits="${4:-1}" '/^summary:/ { count = $2 }
+        END { if (units + 0 == 0 || count < units) exit 1
+            if (digits == "all") printf "%d %d\n", units, count
+            else printf "%d %." digits "f\n", units, count / units }' \
         "$folder/counts" || {
         echo "bench.sh: callgrind finds no function $3" >&2
         return 1
@@ -83,6 +88,13 @@ for pair in $BY_SECTION5; do
     echo "$operation: ${ours% *} points, instructions a point"
     awk -v ours="${ours#* }" -v typed="${typed#* }" 'BEGIN {
         printf "  by Section 5 %.3f, by typed numbers %.3f: %+.2f %%\n", ours, typed, 100 * (ours / typed - 1) }'
+done
+
+# What a call takes goes with the groups, not with the points.
+for operation in $ONE_POINT; do
+    ours=$(counted "$operation" ours cleatmow_point all)
+    awk -v operation="$operation" -v groups="${ours% *}" -v call="${ours#* }" 'BEGIN {
+        printf "%s: %d groups, %d instructions for the call, %.1f a group\n", operation, groups, call, call / groups }'
 done
 
 for pair in $ALONE; do

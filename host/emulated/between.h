@@ -8,6 +8,7 @@
 /* Every call of include/cleatmow.h, without the cleatmow_ before it. */
 #define EVERY_CALL(call) \
     call(unpack) \
+    call(point) \
     call(read_section5) \
     call(write_section5) \
     call(unpack_complex) \
@@ -17,23 +18,26 @@
 
 /*
  * What each call takes, by its names in the header and in their order: a number of a type; a slice that is read or one
- * that is lent, which is a pointer and a length; a place for one value of a type, which is a pointer alone.
+ * that is lent, which is a pointer and a length; a place for one value of a type, which is a pointer alone. These four
+ * are in capitals, which no name of the header's is.
  */
-#define unpack_TAKES(number, read, lent, place) read(section5), read(payload), lent(points)
-#define read_section5_TAKES(number, read, lent, place) read(section5), lent(fields)
-#define write_section5_TAKES(number, read, lent, place) read(fields), lent(section5)
-#define unpack_complex_TAKES(number, read, lent, place) TEMPLATE(number), read(payload), lent(points)
-#define unpack_spatial_TAKES(number, read, lent, place) \
-    TEMPLATE(number), number(uint8_t, order), number(uint8_t, descriptor_octets), read(payload), lent(points)
-#define run_length_TAKES(number, read, lent, place) \
-    number(uint8_t, bits), number(uint16_t, max_level), number(uint32_t, declared), read(payload), lent(levels)
-#define pack_TAKES(number, read, lent, place) \
-    number(uint32_t, lookahead), read(numbers), lent(groups), lent(payload), lent(summary)
+#define unpack_TAKES(NUMBER, READ, LENT, PLACE) READ(section5), READ(payload), LENT(points)
+#define point_TAKES(NUMBER, READ, LENT, PLACE) \
+    NUMBER(uint32_t, place), READ(section5), READ(payload), PLACE(uint8_t, mark), PLACE(int64_t, number)
+#define read_section5_TAKES(NUMBER, READ, LENT, PLACE) READ(section5), LENT(fields)
+#define write_section5_TAKES(NUMBER, READ, LENT, PLACE) READ(fields), LENT(section5)
+#define unpack_complex_TAKES(NUMBER, READ, LENT, PLACE) TEMPLATE(NUMBER), READ(payload), LENT(points)
+#define unpack_spatial_TAKES(NUMBER, READ, LENT, PLACE) \
+    TEMPLATE(NUMBER), NUMBER(uint8_t, order), NUMBER(uint8_t, descriptor_octets), READ(payload), LENT(points)
+#define run_length_TAKES(NUMBER, READ, LENT, PLACE) \
+    NUMBER(uint8_t, bits), NUMBER(uint16_t, max_level), NUMBER(uint32_t, declared), READ(payload), LENT(levels)
+#define pack_TAKES(NUMBER, READ, LENT, PLACE) \
+    NUMBER(uint32_t, lookahead), READ(numbers), LENT(groups), LENT(payload), LENT(summary)
 
-#define TEMPLATE(number) \
-    number(uint32_t, declared), number(uint8_t, num_bits), number(uint8_t, splitting), number(uint8_t, missing), \
-    number(uint32_t, num_groups), number(uint8_t, width_ref), number(uint8_t, width_bits), \
-    number(uint32_t, len_ref), number(uint8_t, len_inc), number(uint32_t, len_last), number(uint8_t, len_bits)
+#define TEMPLATE(NUMBER) \
+    NUMBER(uint32_t, declared), NUMBER(uint8_t, num_bits), NUMBER(uint8_t, splitting), NUMBER(uint8_t, missing), \
+    NUMBER(uint32_t, num_groups), NUMBER(uint8_t, width_ref), NUMBER(uint8_t, width_bits), \
+    NUMBER(uint32_t, len_ref), NUMBER(uint8_t, len_inc), NUMBER(uint32_t, len_last), NUMBER(uint8_t, len_bits)
 
 #define NUMBER_OF(name) CALL_##name,
 enum call { EVERY_CALL(NUMBER_OF) CALLS };

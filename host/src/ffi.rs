@@ -86,6 +86,16 @@ mod c {
             points: *mut u8,
             points_len: usize,
         ) -> u32;
+
+        pub fn cleatmow_point(
+            place: u32,
+            section5: *const u8,
+            section5_len: usize,
+            payload: *const u8,
+            payload_len: usize,
+            mark: *mut u8,
+            number: *mut i64,
+        ) -> u32;
     }
 }
 
@@ -197,6 +207,13 @@ pub fn unpack(section5: &[u8], payload: &[u8], points: &mut [u8]) -> u32 {
             points.as_mut_ptr(),
             points.len(),
         )
+    }
+}
+
+pub fn point(place: u32, section5: &[u8], payload: &[u8], mark: &mut u8, number: &mut i64) -> u32 {
+    // SAFETY: as in `unpack_complex`, with the two values for `points`: each is borrowed for writing.
+    unsafe {
+        c::cleatmow_point(place, section5.as_ptr(), section5.len(), payload.as_ptr(), payload.len(), mark, number)
     }
 }
 

@@ -164,7 +164,6 @@ mod tests {
         assert_eq!((u32::from_octets(One(&[0x12, 0x34, 0x56, 0x78])), u32::OCTETS), (0x1234_5678, FIELD_OCTETS));
     }
 
-    /// No call leaves another mark, and it is not shown as a point.
     #[test]
     #[should_panic(expected = "a point with mark 3")]
     fn octets_of_another_mark() {

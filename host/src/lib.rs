@@ -23,6 +23,19 @@
 //! # Ok::<(), Box<dyn std::error::Error>>(())
 //! ```
 //!
+//! One point of a map under template 5.2 is read from its place in the list, and the map is not unpacked:
+//!
+//! ```
+//! use cleatmow::{point, Point, Refusal};
+//!
+//! # let section5 = [
+//! #     0, 0, 0, 47, 5, 0, 0, 0, 4, 0, 2, 0, 0, 0, 0, 0, 0, 0, 0, 3, 0, 1, 0, 255, 255, 255, 255, 255, 255, 255, 255,
+//! #     0, 0, 0, 2, 0, 1, 0, 0, 0, 3, 0, 0, 0, 0, 1, 0,
+//! # ];
+//! assert_eq!(point(&section5, &[0xBC, 0x80, 0x40], 1), Ok(Point::Number(6)));
+//! assert_eq!(point(&section5, &[0xBC, 0x80, 0x40], 4), Err(Refusal::Place));
+//! ```
+//!
 //! Packing goes the other way, from a list of numbers to a payload and the template numbers that read it; of these
 //! Section 5 is written:
 //!
@@ -145,7 +158,7 @@ pub use section::NotSection;
 pub use section5::{Physical, Section5, TemplateNumbers};
 pub use section7::{payload_of, section7_of};
 pub use unpacking::{
-    lent_points, unpack, unpack_complex, unpack_complex_into, unpack_into, unpack_spatial, unpack_spatial_into,
+    lent_points, point, unpack, unpack_complex, unpack_complex_into, unpack_into, unpack_spatial, unpack_spatial_into,
     Differences, Template,
 };
 

@@ -38,6 +38,18 @@ impl Point {
     pub fn is_missing(self) -> bool {
         self.mark() != 0
     }
+
+    /// The point that a call has left as a mark and a number. Where the mark is 1 or 2, the number is not looked at. No
+    /// call leaves another mark, and it is not shown as a point.
+    #[inline]
+    pub(crate) fn left(mark: u8, number: i64) -> Point {
+        match mark {
+            0 => Point::Number(number),
+            1 => Point::Missing1,
+            2 => Point::Missing2,
+            _ => panic!("a point with mark {mark}: libcleatmow.a and this crate are of different versions"),
+        }
+    }
 }
 
 /// The size of a point in a lent buffer: nine octets, the mark (0 number, 1, 2) and then the number, big-endian two's
@@ -47,16 +59,10 @@ pub const POINT_OCTETS: usize = 9;
 impl InOctets for Point {
     const OCTETS: usize = POINT_OCTETS;
 
-    /// Where the mark is 1 or 2, the number is not looked at.
     #[inline]
     fn from_octets(octets: One) -> Point {
         let [mark, number @ ..] = octets.array::<POINT_OCTETS>();
-        match mark {
-            0 => Point::Number(i64::from_be_bytes(number)),
-            1 => Point::Missing1,
-            2 => Point::Missing2,
-            _ => panic!("a point with mark {mark}: libcleatmow.a and this crate are of different versions"),
-        }
+        Point::left(mark, i64::from_be_bytes(number))
     }
 }
 

@@ -36,8 +36,11 @@ pub enum Refusal {
     /// Writing Section 5: a number that its octets do not hold.
     Numbers = 13,
     /// Section 5: fewer octets or fields than its template has (fewer than eleven octets name none), a length that is
-    /// not its template's, a section number other than 5, or a template other than 5.2 and 5.3.
+    /// not its template's, a section number other than 5, or a template other than 5.2 and 5.3; for one point, other
+    /// than 5.2.
     Section5 = 14,
+    /// One point: its place is not below the declared count.
+    Place = 15,
 }
 
 impl Refusal {
@@ -57,6 +60,7 @@ impl Refusal {
         Refusal::Beyond,
         Refusal::Numbers,
         Refusal::Section5,
+        Refusal::Place,
     ];
 
     /// The number that document 01 or document 02 gives it.
@@ -125,8 +129,12 @@ impl Refusal {
                  or a number does not fit its octets of Section 5"
             }
             Refusal::Section5 => {
-                "there is no whole Section 5 of template 5.2 or 5.3: octets or fields are too few, \
-                 or the length, the section number or the template is another"
+                "there is no whole Section 5 of template 5.2 or 5.3, or for one point of 5.2: \
+                 octets or fields are too few, or the length, the section number or the template is another"
+            }
+            Refusal::Place => {
+                "the place is not below the declared count, so the map has no such point: \
+                 the program that called must name another, and the map is not at fault"
             }
         }
     }

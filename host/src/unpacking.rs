@@ -31,6 +31,22 @@ pub fn unpack_into<'a>(section5: &[u8], payload: &[u8], lent: &'a mut [u8]) -> R
     Ok(Filled::front(lent, declared_points(section5)? as usize))
 }
 
+/// One point of a map under template 5.2, from the octets of its Section 5 and its payload: the one that [`unpack`]
+/// answers at this place. The map is not unpacked, and nothing is allocated.
+///
+/// `place` is the point's place in the map's list; the first is 0. The other arguments are those of [`unpack`].
+///
+/// # Errors
+///
+/// [`Refusal::Section5`], for a Section 5 of template 5.3 too; then those of [`unpack_complex`] in their order,
+/// wherever in the map the fault is; and [`Refusal::Place`].
+pub fn point(section5: &[u8], payload: &[u8], place: u32) -> Result<Point, Refusal> {
+    // No point has this mark: one that a call did not write is not taken for a number.
+    let (mut mark, mut number) = (u8::MAX, 0);
+    Refusal::answered(ffi::point(place, section5, payload, &mut mark, &mut number))?;
+    Ok(Point::left(mark, number))
+}
+
 /// The numbers of template 5.2, in Section 5's order.
 #[derive(Clone, Copy, Debug, PartialEq, Eq)]
 pub struct Template {

@@ -1,9 +1,9 @@
 //! What the wrappers allocate, and that the calls on lent octets do not.
 
 use cleatmow::{
-    numbers_as_octets, pack, pack_into, read_section5, read_section5_into, run_length, run_length_into, unpack,
+    numbers_as_octets, pack, pack_into, point, read_section5, read_section5_into, run_length, run_length_into, unpack,
     unpack_complex, unpack_complex_into, unpack_into, unpack_spatial, unpack_spatial_into, write_section5,
-    write_section5_into, Differences, Fields, Physical, Points, Refusal, Section5, Template, FIELD_OCTETS,
+    write_section5_into, Differences, Fields, Physical, Point, Points, Refusal, Section5, Template, FIELD_OCTETS,
     GROUP_OCTETS, LEVEL_OCTETS, MOST_NUMBERS, MOST_POINTS, NUMBER_OCTETS, POINT_OCTETS, SUMMARY_OCTETS,
 };
 use std::alloc::{GlobalAlloc, Layout, System};
@@ -206,6 +206,43 @@ fn calls_on_lent_octets_allocate_nothing() {
         assert_eq!(packed(1, 2_000, 4_000, SUMMARY_OCTETS - 1), Err(Refusal::Room));
         assert_eq!(packed(1, 1_999, 4_000, SUMMARY_OCTETS), Err(Refusal::Room));
         assert_eq!(packed(1, 2_000, 4, SUMMARY_OCTETS), Err(Refusal::Room));
+    });
+    assert_eq!(nothing, (0, 0));
+}
+
+/// A number, a missing point, and every refusal.
+#[test]
+fn one_point_allocates_nothing() {
+    let (payload, map) = (vec![0x77; 3_000], template(8_000));
+    let of = |declared, template: &Template| Section5::of_packing(declared, template, &Physical::default());
+    let good = of(8_000, &map);
+    let managed = of(8_000, &Template { missing: 1, ..map });
+    let mut spatial = [&good[..], &[1, 1]].concat();
+    (spatial[3], spatial[10]) = (49, 3);
+    let refused = [
+        (Refusal::Section5, good[..46].to_vec()),
+        (Refusal::Section5, spatial),
+        (Refusal::Splitting, of(8_000, &Template { splitting: 0, ..map })),
+        (Refusal::Management, of(8_000, &Template { missing: 3, ..map })),
+        (Refusal::GroupCount, of(8_000, &Template { groups: 0, ..map })),
+        (Refusal::Width, of(8_000, &Template { number_width: 32, ..map })),
+        // For the group fields, and for the values.
+        (Refusal::Short, of(8_000, &Template { groups: 4_000_000, length_bits: 8, ..map })),
+        (Refusal::GroupSize, of(8_000, &Template { width_reference: 32, ..map })),
+        (Refusal::Short, of(8_001, &template(8_001))),
+        (Refusal::Points, of(7_999, &map)),
+        (Refusal::Points, of(u32::MAX, &map)),
+    ];
+    let nothing = asked(|| {
+        assert_eq!(point(&good, &payload, 0), Ok(Point::Number(3)));
+        assert_eq!(point(&good, &payload, 7_999), Ok(Point::Number(7)));
+        assert_eq!(point(&managed, &payload, 7_999), Ok(Point::Missing1));
+        for place in [8_000, u32::MAX] {
+            assert_eq!(point(&good, &payload, place), Err(Refusal::Place));
+        }
+        for (refusal, section5) in &refused {
+            assert_eq!(point(section5, &payload, 0), Err(*refusal));
+        }
     });
     assert_eq!(nothing, (0, 0));
 }

@@ -35,6 +35,7 @@ static int constants(void) {
     EXPECT(CLEATMOW_PACKING_SPLITTING == 1 && CLEATMOW_PACKING_MISSING == 0);
     EXPECT(CLEATMOW_PACKING_MISSING_VALUE == 0xFFFFFFFF);
     EXPECT(CLEATMOW_REFUSAL_SPLITTING == 1 && CLEATMOW_REFUSAL_NUMBERS == 13 && CLEATMOW_REFUSAL_SECTION5 == 14);
+    EXPECT(CLEATMOW_REFUSAL_PLACE == 15);
     EXPECT(CLEATMOW_SECTION5_COMPLEX_OCTETS == 47 && CLEATMOW_SECTION5_COMPLEX_FIELDS == 20);
     EXPECT(CLEATMOW_SECTION5_SPATIAL_OCTETS == 49 && CLEATMOW_SECTION5_SPATIAL_FIELDS == 22);
     EXPECT(CLEATMOW_FIELD_OCTETS == 4 && CLEATMOW_FIELD_DESCRIPTOR_OCTETS == 21);
@@ -270,6 +271,61 @@ static int unpack(void) {
     return 0;
 }
 
+/* complex5 with other numbers. */
+static const uint8_t *section5_of(uint8_t declared, uint8_t width, uint8_t splitting, uint8_t missing, uint8_t groups,
+    uint8_t reference, uint8_t width_bits) {
+    static uint8_t octets[sizeof complex5];
+    memcpy(octets, complex5, sizeof octets);
+    octets[8] = declared;
+    octets[19] = width;
+    octets[21] = splitting;
+    octets[22] = missing;
+    octets[34] = groups;
+    octets[35] = reference;
+    octets[36] = width_bits;
+    return octets;
+}
+
+static int point(void) {
+    const uint8_t payload[] = {0xBC, 0x80, 0x40};
+    uint8_t marks[] = {0xEE, 0xEE, 0xEE};
+    int64_t numbers[] = {-1, -1, -1};
+
+#define POINT(place, declared, width, splitting, missing, groups, reference, len) cleatmow_point(place, \
+    section5_of(declared, width, splitting, missing, groups, reference, 1), 47, payload, len, marks + 1, numbers + 1)
+    EXPECT(cleatmow_point(0, complex5, 46, payload, 3, marks + 1, numbers + 1) == CLEATMOW_REFUSAL_SECTION5);
+    EXPECT(cleatmow_point(0, spatial5, 49, payload, 3, marks + 1, numbers + 1) == CLEATMOW_REFUSAL_SECTION5);
+    EXPECT(cleatmow_point(0, NULL, 0, NULL, 0, marks + 1, numbers + 1) == CLEATMOW_REFUSAL_SECTION5);
+    EXPECT(POINT(0, 4, 3, 0, 0, 2, 0, 3) == CLEATMOW_REFUSAL_SPLITTING);
+    EXPECT(POINT(0, 4, 3, 1, 3, 2, 0, 3) == CLEATMOW_REFUSAL_MANAGEMENT);
+    EXPECT(POINT(0, 4, 3, 1, 0, 0, 0, 3) == CLEATMOW_REFUSAL_GROUP_COUNT);
+    EXPECT(POINT(0, 4, 32, 1, 0, 2, 0, 3) == CLEATMOW_REFUSAL_WIDTH);
+    EXPECT(POINT(0, 4, 3, 1, 0, 2, 0, 1) == CLEATMOW_REFUSAL_SHORT);
+    EXPECT(POINT(0, 4, 3, 1, 0, 2, 31, 3) == CLEATMOW_REFUSAL_GROUP_SIZE);
+    EXPECT(POINT(0, 4, 3, 1, 0, 2, 0, 2) == CLEATMOW_REFUSAL_SHORT);
+    EXPECT(POINT(0, 3, 3, 1, 0, 2, 0, 3) == CLEATMOW_REFUSAL_POINTS);
+    EXPECT(POINT(5, 5, 3, 1, 0, 2, 0, 3) == CLEATMOW_REFUSAL_POINTS);
+    EXPECT(POINT(4, 4, 3, 1, 0, 2, 0, 3) == CLEATMOW_REFUSAL_PLACE);
+    EXPECT(POINT(0xFFFFFFFF, 4, 3, 1, 0, 2, 0, 3) == CLEATMOW_REFUSAL_PLACE);
+    EXPECT(is_all(marks, 3, 0xEE) && numbers[1] == -1);
+
+    EXPECT(POINT(0, 4, 3, 1, 0, 2, 0, 3) == 0 && marks[1] == 0 && numbers[1] == 5);
+    EXPECT(POINT(1, 4, 3, 1, 0, 2, 0, 3) == 0 && marks[1] == 0 && numbers[1] == 6);
+    EXPECT(POINT(3, 4, 3, 1, 0, 2, 0, 3) == 0 && marks[1] == 0 && numbers[1] == 7);
+    /* Both are written where a point is missing, too. */
+    EXPECT(POINT(0, 4, 3, 1, 2, 2, 0, 3) == 0 && marks[1] == 2 && numbers[1] == 0);
+    numbers[1] = -1;
+    EXPECT(POINT(3, 4, 3, 1, 1, 2, 0, 3) == 0 && marks[1] == 1 && numbers[1] == 0);
+    EXPECT(POINT(2, 4, 3, 1, 1, 2, 0, 3) == 0 && marks[1] == 0 && numbers[1] == 5);
+    EXPECT(marks[0] == 0xEE && marks[2] == 0xEE && numbers[0] == -1 && numbers[2] == -1);
+
+    /* An empty payload, as a null pointer: one group of one point, of number width 0 and width 0. */
+    marks[1] = 0xEE;
+    EXPECT(cleatmow_point(0, section5_of(1, 0, 1, 0, 1, 0, 0), 47, NULL, 0, marks + 1, numbers + 1) == 0);
+    EXPECT(marks[1] == 0 && numbers[1] == 0);
+    return 0;
+}
+
 int main(void) {
     int line = constants();
     if (line == 0) line = unpack_complex();
@@ -278,5 +334,6 @@ int main(void) {
     if (line == 0) line = pack();
     if (line == 0) line = section5();
     if (line == 0) line = unpack();
+    if (line == 0) line = point();
     return line;
 }

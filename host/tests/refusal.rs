@@ -12,20 +12,20 @@ const HEADER: &str = include_str!("../../include/cleatmow.h");
 
 /// All rows of document 01's table, and those of document 02's requests.
 fn table() -> impl Iterator<Item = (u32, Refusal)> {
-    (1..=14).map(|number| (number, Refusal::from_number(number).expect("a row")))
+    (1..=15).map(|number| (number, Refusal::from_number(number).expect("a row")))
 }
 
 #[test]
 fn numbers_are_the_tables() {
     assert!(table().all(|(number, refusal)| refusal.number() == number));
     assert!(Refusal::ALL.iter().copied().eq(table().map(|(_, refusal)| refusal)));
-    for number in [0, 15, 255, 256 + 9, u32::MAX] {
+    for number in [0, 16, 255, 256 + 9, u32::MAX] {
         assert_eq!(Refusal::from_number(number), None);
     }
     assert_eq!((Refusal::Splitting.number(), Refusal::Numbers.number()), (1, 13));
     assert_eq!((Refusal::Width.number(), Refusal::Repeat.number()), (5, 11));
     assert_eq!((Refusal::Points.number(), Refusal::Room.number()), (9, 10));
-    assert_eq!(Refusal::Section5.number(), 14);
+    assert_eq!((Refusal::Section5.number(), Refusal::Place.number()), (14, 15));
 }
 
 #[test]

@@ -74,7 +74,10 @@ fn document_01s_cases() {
 
     let point = |name: &str, columns: &str, rows: &str, column: &str, row: &str| {
         let line = format!("point {name} --columns {columns} --rows {rows} --column {column} --row {row}");
-        let printed = unwrapped(&results(&folder, &words(&line)));
+        let printed = unwrapped(&results(&folder, &words(&format!("{line} --group"))));
+        // Unless it is asked for, the group is left out, and nothing else.
+        let others: String = printed.split_inclusive('\n').filter(|line| !line.starts_with("group ")).collect();
+        assert_eq!(unwrapped(&results(&folder, &words(&line))), others, "{line}");
         let (pair, rest) = (after(&printed, "pair"), printed.split("grid ").next().unwrap().to_string());
         assert!(pair.starts_with("not checked: whether Section 5 and Section 7 belong together; "), "{pair}");
         let grid = typed(columns.parse().unwrap(), rows.parse().unwrap());
@@ -262,6 +265,10 @@ fn refusals_are_the_exit_status() {
             "check map --lookahead 4",
             "pack map --columns 4 --rows 1 --to cut",
             "point map --columns 4 --rows 1 --column 1 --row 1",
+            "point map --columns 4 --rows 1 --column 1 --row 1 --group --lookahead 4",
+            // The map is judged before its grid.
+            "point map --column 1 --row 1",
+            "point map --columns 3 --rows 3 --column 9 --row 9",
         ] {
             let sentence = told(&folder, &words(line), number);
             assert!(sentence.starts_with(&format!("map: refusal {number}: ")), "{sentence}");

@@ -88,7 +88,8 @@ fn a_cut_out_on_site() {
             let index = (row - 1) * columns + column - 1;
             let number = points[index].number().expect("a number");
             let grid = format!("--columns {columns} --rows {rows}");
-            let line = format!("point cut-{place} {grid} --column {column} --row {row} --lookahead {lookahead}");
+            let line =
+                format!("point cut-{place} {grid} --column {column} --row {row} --group --lookahead {lookahead}");
             let reference = [(GUST.name, 1), (PUERTO_RICO.name, 2943), (CONUS.name, 2759)];
             let (_, reference) = reference.into_iter().find(|(name, _)| *name == sample.name).unwrap();
             let expected = format!(
@@ -106,6 +107,7 @@ fn a_cut_out_on_site() {
                 let line = format!("point {from} --column {} --row {}", left + column - 1, top + row - 1);
                 let printed = results(&folder, &words(&line));
                 assert!(printed.starts_with(&format!("number    {number}\nmark      0\n")), "{line}: {printed}");
+                assert!(!printed.contains("\ngroup "), "{line}: {printed}");
             }
         }
 
@@ -135,6 +137,26 @@ fn places_of_an_alternating_map() {
             assert!(printed.starts_with(&first) && after(&printed, "place") == place, "{printed}");
         }
     }
+}
+
+/// A box of 16 MiB reads a point of a map whose points take 36. Where calls are emulated, the emulator needs more.
+#[cfg(target_arch = "x86_64")]
+#[test]
+fn a_box_without_room_for_the_map() {
+    let folder = scratch("box");
+    let great = Template { groups: 1, width_bits: 0, length_reference: 0, last_length: 4_194_304, ..CASE };
+    write_map(&folder, "map", &complex(4_194_304, great), &section7(&[0xA0]));
+    let point = words("point map --columns 2048 --rows 2048 --column 2048 --row 2048");
+    let in_a_box = |line: &[&str]| {
+        let mut command = Command::new("sh");
+        command.args(["-c", "ulimit -c 0; ulimit -d 16384; exec \"$@\"", "sh", env!("CARGO_BIN_EXE_desk")]);
+        command.current_dir(&folder).args(line).stdin(Stdio::null()).output().unwrap()
+    };
+    let ran = Ran::from(in_a_box(&point));
+    assert_eq!((ran.status, ran.out.as_str()), (Some(0), results(&folder, &point).as_str()), "{ran:?}");
+    assert!(ran.out.starts_with("number    5\nmark      0\n"), "{ran:?}");
+    // The box is as small as it says: for the whole map there is no room.
+    assert_ne!(in_a_box(&["info", "map"]).status.code(), Some(0));
 }
 
 #[test]

@@ -37,6 +37,8 @@ fn words_that_are_no_command() {
         (said("unpack --all map"), no_option("unpack", "--all")),
         (said("unpack -x"), no_option("unpack", "-x")),
         (said("info --groups=yes map"), said("--groups takes no value")),
+        (format!("{point} --column 1 --row 1 --group=1"), said("--group takes no value")),
+        (format!("{point} --column 1 --row 1 --groups"), no_option("point", "--groups")),
         (said("day --samples"), said("--samples needs a value")),
         (said("check map"), said("--lookahead is missing")),
         (said("unpack map --columns 2 --rows 2"), said("a grid is typed without --csv")),

@@ -8,6 +8,7 @@
 
 mod damage;
 mod packing;
+mod point;
 mod run_length;
 mod section5;
 #[path = "../support/mod.rs"]
@@ -42,6 +43,9 @@ trait Operation {
 
 /// What a call is given.
 trait Input: Debug {
+    /// What its lent buffers' places in memory are multiples of: octets stand anywhere, a value of several does not.
+    const LENT_AT: usize = 1;
+
     /// The octets that it reads, for each of its buffers.
     fn read(&self) -> Vec<&[u8]>;
 
@@ -97,10 +101,12 @@ fn pattern(octets: usize, flip: u8) -> impl Iterator<Item = u8> {
 
 /// Makes a call twice, on a pattern and on its complement, so that no stray store goes unseen and an answer that depends
 /// on octets outside does not stay the same. Answers the documents' class, or what is not as it should be.
-fn held(input: &impl Input, guard: usize) -> Result<Class, String> {
+fn held<I: Input>(input: &I, guard: usize) -> Result<Class, String> {
     let [first, second] = [0, 0xFF].map(|flip| {
         let mut read: Vec<Block> = input.read().into_iter().map(|octets| Block::new(octets, guard, flip)).collect();
-        let mut lent: Vec<Block> = input.lent().into_iter().map(|octets| Block::lent(octets, guard, flip)).collect();
+        let lent_guard = guard.next_multiple_of(I::LENT_AT);
+        let mut lent: Vec<Block> =
+            input.lent().into_iter().map(|octets| Block::lent(octets, lent_guard, flip)).collect();
         let (read_before, mut right) = (read.clone(), lent.clone());
         let class = input.right(&mut right);
         let called = catch_unwind(AssertUnwindSafe(|| input.call(&mut read, &mut lent)));
@@ -181,6 +187,7 @@ fn run_all(inputs: u64, around: Around) {
         run(&section5::Read::new(), inputs, seed, around),
         run(&section5::Write::new(), inputs, seed, around),
         run(&section5::Unpack::new(), inputs, seed, around),
+        run(&point::OnePoint::new(), inputs, seed, around),
     ];
     let how = match around {
         Around::Guards => "guard octets about every buffer",

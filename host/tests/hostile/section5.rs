@@ -127,7 +127,7 @@ impl OneWay {
 }
 
 /// Another length, section number or template, the two of the other template, or any octets.
-fn damage_section(chance: &mut Chance, section5: &mut Vec<u8>) {
+pub fn damage_section(chance: &mut Chance, section5: &mut Vec<u8>) {
     match chance.below(16) {
         0 if section5.len() >= 5 => damage::octet(chance, &mut section5[3], &[0, 5, 11, 46, 47, 48, 49, 50]),
         1 if section5.len() >= 5 => damage::octet(chance, &mut section5[4], &[0, 4, 6, 7]),

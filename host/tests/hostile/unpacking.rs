@@ -70,8 +70,8 @@ pub const BY_SECTION5: &[Class] = &[
 ];
 
 const DESCRIPTORS: &str = "descriptors";
-const GROUP_FIELDS: &str = "group fields";
-const VALUES: &str = "values";
+pub const GROUP_FIELDS: &str = "group fields";
+pub const VALUES: &str = "values";
 
 /// Good maps, each with its own count declared.
 struct Maps {
@@ -162,24 +162,23 @@ impl Input for Unpacking {
         let lent = lent[0].octets();
         let (number, left) = model::answer(&self.map, lent);
         lent.copy_from_slice(&left);
-        (number, if number == 7 { self.what_is_short() } else { "" })
+        class(number, &self.map)
     }
 }
 
-impl Unpacking {
-    /// What of the payload is not all there, where something is not.
-    fn what_is_short(&self) -> &'static str {
-        let Map { template, differences, payload, .. } = &self.map;
-        let octets = payload.len() as u64;
-        let descriptors = differences.map_or(0, |said| (u64::from(said.order) + 1) * u64::from(said.descriptor_octets));
-        let field = |width: u8| (u64::from(template.groups) * u64::from(width)).div_ceil(8);
-        let fields = field(template.number_width) + field(template.width_bits) + field(template.length_bits);
-        match octets {
-            _ if octets < descriptors => DESCRIPTORS,
-            _ if octets < descriptors + fields => GROUP_FIELDS,
-            _ => VALUES,
-        }
-    }
+/// What an answer is for: of 7, what of the payload is not all there.
+pub fn class(number: u32, map: &Map) -> Class {
+    let Map { template, differences, payload, .. } = map;
+    let octets = payload.len() as u64;
+    let descriptors = differences.map_or(0, |said| (u64::from(said.order) + 1) * u64::from(said.descriptor_octets));
+    let field = |width: u8| (u64::from(template.groups) * u64::from(width)).div_ceil(8);
+    let fields = field(template.number_width) + field(template.width_bits) + field(template.length_bits);
+    let what_is_short = match octets {
+        _ if octets < descriptors => DESCRIPTORS,
+        _ if octets < descriptors + fields => GROUP_FIELDS,
+        _ => VALUES,
+    };
+    (number, if number == 7 { what_is_short } else { "" })
 }
 
 /// Document 01's cases, parts of the real maps, small maps by other writers, and made ones.

@@ -5,6 +5,7 @@
 //! the other, as two witnesses: a slip of one should not be a slip of both.
 
 pub mod packing;
+pub mod point;
 pub mod run_length;
 pub mod section5;
 

@@ -1,12 +1,13 @@
 //! The benchmark: ours, through its C calls, and the Rust on the same map in one run. docs/PERFORMANCE.md says what is
 //! timed.
 //!
-//! `bench [OPERATION] [--points N]` times one operation or all, on maps of N points, 1,000,000 without the option. Those
-//! that begin with `real_` unpack the real maps of samples/, which have the points that they have. Those that begin
-//! with `section5_` unpack by the octets of Section 5, beside the call with typed numbers. Those that begin with
-//! `pack_` pack numbers: a number after it is the lookahead, on the numbers of a made map; `real_` and a name is a real
-//! map, and the lookahead comes last; any other word names a list that is hard to group, at the greatest lookahead or,
-//! for `comb`, at the one that is hardest for it.
+//! `bench [OPERATION] [--points N]` times one operation or all, on maps of N points, 1,000,000 without the option.
+//! Those that begin with `real_` unpack the real maps of samples/, which have the points that they have. Those that
+//! begin with `section5_` unpack by the octets of Section 5, beside the call with typed numbers. Those that begin with
+//! `point_` read one point, the first of a map, the middle or the last, beside the unpacking of all of it. Those that
+//! begin with `pack_` pack numbers: a number after it is the lookahead, on the numbers of a made map; `real_` and a
+//! name is a real map, and the lookahead comes last; any other word names a list that is hard to group, at the greatest
+//! lookahead or, for `comb`, at the one that is hardest for it.
 //! With `--only-ours`, `--only-rust`, `--only-typed` or `--only-limit` it makes one call and times nothing, for a tool
 //! that counts instructions.
 //!
@@ -33,7 +34,7 @@ mod bench {
 
     use cleatmow::{
         GREATEST_LOOKAHEAD, GROUP_OCTETS, Group, LEVEL_OCTETS, MOST_POINTS, NUMBER_OCTETS, POINT_OCTETS, Packing,
-        Point, Points, SUMMARY_OCTETS, Section5, Template, TemplateNumbers, numbers_as_octets, pack, pack_into,
+        Point, Points, SUMMARY_OCTETS, Section5, Template, TemplateNumbers, numbers_as_octets, pack, pack_into, point,
         run_length, run_length_into, unpack, unpack_complex, unpack_complex_into, unpack_into, unpack_spatial,
         unpack_spatial_into, write_section5,
     };
@@ -52,7 +53,7 @@ mod bench {
 
     /// Every operation, by a name of this program's own. `bench.sh` says which C call, which function of the oracle and
     /// which limit are behind it.
-    const OPERATIONS: [(&str, Run); 28] = [
+    const OPERATIONS: [(&str, Run); 34] = [
         ("run_length", |name, options| {
             bench(name, RunLength::new(options.points), options);
             if options.calls == Calls::Timed {
@@ -66,6 +67,12 @@ mod bench {
         ("section5_spatial", |name, options| {
             bench(name, BySection5::new(gust_differences(1, options.points)), options)
         }),
+        ("point_first", |name, options| bench(name, OnePoint::first(gusts(options.points)), options)),
+        ("point_middle", |name, options| bench(name, OnePoint::middle(gusts(options.points)), options)),
+        ("point_last", |name, options| bench(name, OnePoint::last(gusts(options.points)), options)),
+        ("point_conus_first", |name, options| bench(name, OnePoint::first(real!("ndfd-conus-1073x689")), options)),
+        ("point_conus_middle", |name, options| bench(name, OnePoint::middle(real!("ndfd-conus-1073x689")), options)),
+        ("point_conus_last", |name, options| bench(name, OnePoint::last(real!("ndfd-conus-1073x689")), options)),
         ("real_gust", |name, options| bench(name, Unpacking::new(real!("gfs-gust-144x73")), options)),
         ("real_conus", |name, options| bench(name, Unpacking::new(real!("ndfd-conus-1073x689")), options)),
         ("real_puerto_rico", |name, options| bench(name, Unpacking::new(real!("ndfd-puerto-rico-339x224")), options)),
@@ -163,6 +170,10 @@ mod bench {
         const LIMIT: Option<&'static str> = None;
         /// Whether what stands in the lent buffers is read through the view too. Not unless said.
         const IS_READ: bool = false;
+        /// What the call on the lent buffers is called in the report.
+        const LENT: &'static str = "ours, lent buffer";
+        /// Whether the wrapper makes a list. So unless said: otherwise the wrapper is the call itself.
+        const IS_LIST: bool = true;
 
         /// The C call, on the lent buffers.
         fn ours_lent(&mut self);
@@ -189,6 +200,10 @@ mod bench {
         }
         /// The points and the octets of the packed map.
         fn size(&self) -> (u32, usize);
+        /// What a call goes through one by one, and how many there are: the points, unless said.
+        fn units(&self) -> (u32, &'static str) {
+            (self.size().0, "points")
+        }
         /// Which is the other side: the Rust on the same points, unless said.
         fn beside(&self) -> Beside {
             Beside::Rust(self.size().0)
@@ -203,6 +218,8 @@ mod bench {
         AtEight(u32),
         /// Ours with typed numbers, on the same points and lent buffers.
         Typed(u32),
+        /// Ours on the whole map, on lent buffers, where one point of it is read.
+        Whole(u32),
     }
 
     struct RunLength {
@@ -434,6 +451,73 @@ mod bench {
 
         fn beside(&self) -> Beside {
             Beside::Typed(self.typed.map.declared)
+        }
+    }
+
+    /// One point of a map under 5.2, beside the unpacking of all of it.
+    struct OnePoint {
+        whole: BySection5,
+        place: u32,
+        /// What the last call answered.
+        read: Option<Point>,
+    }
+
+    impl OnePoint {
+        fn first(map: ComplexMap) -> Self {
+            Self { whole: BySection5::new(map), place: 0, read: None }
+        }
+
+        fn middle(map: ComplexMap) -> Self {
+            Self { place: map.declared / 2, ..Self::first(map) }
+        }
+
+        fn last(map: ComplexMap) -> Self {
+            Self { place: map.declared - 1, ..Self::first(map) }
+        }
+    }
+
+    impl Operation for OnePoint {
+        type Answer = Option<Point>;
+        type Other = ();
+        const LENT: &'static str = "ours, one point";
+        const IS_LIST: bool = false;
+
+        fn ours_lent(&mut self) {
+            self.read = self.ours_new();
+        }
+
+        fn ours_new(&self) -> Option<Point> {
+            let BySection5 { section_5, typed } = &self.whole;
+            let read = point(black_box(section_5), black_box(&typed.map.payload), black_box(self.place));
+            Some(read.expect("a good map"))
+        }
+
+        fn other(&mut self) {
+            self.whole.ours_lent();
+        }
+
+        fn left(&self) -> Option<Point> {
+            self.read
+        }
+
+        fn is_right(&self, read: &Option<Point>) -> bool {
+            read.as_ref() == self.whole.typed.map.points.get(self.place as usize)
+        }
+
+        fn other_is_right(&self, (): &()) -> bool {
+            self.whole.is_right(&self.whole.left())
+        }
+
+        fn size(&self) -> (u32, usize) {
+            self.whole.size()
+        }
+
+        fn units(&self) -> (u32, &'static str) {
+            (self.whole.typed.map.template.groups, "groups")
+        }
+
+        fn beside(&self) -> Beside {
+            Beside::Whole(self.size().0)
         }
     }
 
@@ -675,14 +759,16 @@ mod bench {
             assert!(operation.limit_is_right(), "{name}: the limit is wrong");
         }
         if *calls != Calls::Timed {
-            let points = match (calls, operation.beside()) {
-                (Calls::OnlyRust, Beside::Rust(points)) | (Calls::OnlyTyped, Beside::Typed(points)) => points,
+            let (count, units) = match (calls, operation.beside()) {
+                (Calls::OnlyRust, Beside::Rust(points)) | (Calls::OnlyTyped, Beside::Typed(points)) => {
+                    (points, "points")
+                }
                 (Calls::OnlyRust, _) => panic!("{name}: the Rust is left out"),
                 (Calls::OnlyTyped, _) => panic!("{name}: not by Section 5"),
                 (Calls::OnlyLimit, _) if O::LIMIT.is_none() => panic!("{name}: no limit"),
-                _ => operation.size().0,
+                _ => operation.units(),
             };
-            println!("{name}: one call on {points} points");
+            println!("{name}: one call on {count} {units}");
             return;
         }
         assert!(operation.is_right(&operation.ours_new()), "{name}: ours is wrong as a list");
@@ -707,8 +793,10 @@ mod bench {
         for _ in 0..REPETITIONS {
             lent.add(|| operation.ours_lent());
             other.add(|| operation.other());
-            new.add(|| operation.ours_new());
-            other.add(|| operation.other());
+            if O::IS_LIST {
+                new.add(|| operation.ours_new());
+                other.add(|| operation.other());
+            }
             if O::IS_READ {
                 read.add(|| operation.ours_read());
                 other.add(|| operation.other());
@@ -720,8 +808,8 @@ mod bench {
         }
         let (points, octets) = operation.size();
         println!("{name}: {points} points in {octets} octets, nanoseconds a point");
-        let new = new.report("ours, new list", points);
-        let lent = lent.report("ours, lent buffer", points);
+        let new = O::IS_LIST.then(|| new.report("ours, new list", points));
+        let lent = lent.report(O::LENT, points);
         if O::IS_READ {
             read.report("ours, through view", points);
         }
@@ -732,7 +820,9 @@ mod bench {
                     println!("  the Rust packs the first {on} alone: all of them would take it too long");
                 }
                 println!("  ours / Rust, by the medians:");
-                println!("    {} new list: both allocate", ratio(new, rust));
+                if let Some(new) = new {
+                    println!("    {} new list: both allocate", ratio(new, rust));
+                }
                 println!("    {} lent buffer: the Rust alone allocates", ratio(lent, rust));
             }
             Beside::AtEight(on) => {
@@ -744,6 +834,13 @@ mod bench {
             Beside::Typed(on) => {
                 let typed = other.report("ours, typed", on);
                 println!("  by Section 5 / by typed numbers, lent buffers, by the medians: {}", ratio(lent, typed));
+            }
+            Beside::Whole(on) => {
+                let whole = other.report("ours, whole map", on);
+                let (count, units) = operation.units();
+                let each = lent * f64::from(points) / f64::from(count);
+                println!("  one point / whole map, lent buffer, by the medians: {}", ratio(lent, whole));
+                println!("  one point, nanoseconds for each of {count} {units}, by the median: {each:.2}");
             }
         }
         if let Some(does) = O::LIMIT {

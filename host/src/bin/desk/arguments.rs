@@ -52,6 +52,8 @@ pub struct Point {
     pub map: PathBuf,
     pub grid: Typed,
     pub place: Place,
+    /// Whether its group is shown.
+    pub group: bool,
     pub lookahead: Option<u32>,
 }
 
@@ -197,7 +199,7 @@ impl Words {
                 let (lookahead, grid) = (self.lookahead()?, self.grid()?);
                 self.straight(grid, lookahead)?;
                 let place = Place { column: self.counted("--column")?, row: self.counted("--row")? };
-                Command::Point(Point { grid, place, lookahead, map: self.map()? })
+                Command::Point(Point { grid, place, group: self.flag("--group"), lookahead, map: self.map()? })
             }
             Topic::Check => match self.lookahead()? {
                 Some(lookahead) => Command::Check { lookahead, map: self.map()? },

@@ -2,7 +2,7 @@
 
 use crate::arguments::{Form, Pack, Point, Unpack};
 use crate::files;
-use crate::grid::{Grid, Laid, Typed};
+use crate::grid::{no_point_at, Grid, Laid, Typed};
 use crate::map::{section5, Map};
 use crate::packing::{check, Packed};
 use crate::progress::step;
@@ -65,17 +65,25 @@ fn note(sentence: &str) {
 
 pub fn point(asked: &Point, out: &mut impl Write) -> Result<(), Trouble> {
     let (map, mut lent) = (Map::named(&asked.map)?, Vec::new());
-    let points = checked_points(&map, asked.lookahead, &mut lent)?;
-    let laid = Laid::new(map.grid(asked.grid)?, points)?;
-    let (point, index) = (laid.at(asked.place)?, laid.grid.index(asked.place));
+    let found = map.find(asked.grid, asked.place);
+    // A refused map says so before its grid is looked at: where that has no such place, the map is asked for its first.
+    let index = found.as_ref().map_or(0, |(_, index)| *index);
+    let read = match asked.lookahead {
+        None => map.point(index)?,
+        lookahead => map.point_among(checked_points(&map, lookahead, &mut lent)?, index)?,
+    };
+    let (grid, index) = found?;
+    let Some(point) = read else { return no_point_at(asked.place) };
     line(out, "number", &Number(point, NO_FORECAST).to_string())?;
     line(out, "mark", &point.mark().to_string())?;
     line(out, "scale", &map.scale())?;
-    let of = shown::count(laid.grid.points());
-    line(out, "place", &format!("{}: point {} of {of}", asked.place, shown::count(index + 1)))?;
-    line(out, "grid", &laid.grid.in_full())?;
+    let of = shown::count(grid.points());
+    line(out, "place", &format!("{}: point {} of {of}", asked.place, shown::count(u64::from(index) + 1)))?;
+    line(out, "grid", &grid.in_full())?;
     line(out, "map", &map.in_full())?;
-    line(out, "group", &map.group_of(index))?;
+    if asked.group {
+        line(out, "group", &map.group_of(index.into()))?;
+    }
     line(out, "pair", &sections_are(&map, asked.lookahead))
 }
 

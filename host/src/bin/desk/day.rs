@@ -1,7 +1,7 @@
 //! `desk day`: a day at the desk on the three messages of samples/.
 
 use crate::arguments::LOOKAHEAD;
-use crate::grid::{CutOut, Laid, Place, Rectangle, Typed};
+use crate::grid::{no_point_at, CutOut, Laid, Place, Rectangle, Typed};
 use crate::map::Map;
 use crate::packing::{check, Packed};
 use crate::picture::Picture;
@@ -127,7 +127,9 @@ fn show_route(sample: &Sample, map: &Map, laid: Laid, out: &mut impl Write) -> R
     indented(out, "octets", &format!("{before} before, the centre's map; {after} after, the packed cut-out"))?;
 
     let (field, field_on_site) = (sample.route.field(), sample.route.field_on_site());
-    let (at_centre, on_site) = (laid.at(field)?, site.at(field_on_site)?);
+    let index = site.grid.find(field_on_site)?;
+    let at_centre = laid.at(field)?;
+    let Some(on_site) = site_map.point_among(points, index as u32)? else { return no_point_at(field_on_site) };
     indented(out, "point", &format!("{field} of the map; {field_on_site} on site"))?;
     writeln!(out)?;
     writeln!(out, "             {:<16}on site", "at the centre")?;
@@ -139,7 +141,7 @@ fn show_route(sample: &Sample, map: &Map, laid: Laid, out: &mut impl Write) -> R
     }
     indented(out, "on site", &format!("packed again with lookahead {LOOKAHEAD}, both sections are the same"))?;
     indented(out, "", &format!("all {} points are equal to the centre's", shown::count(site.grid.points())))?;
-    indented(out, "group", &site_map.group_of(site.grid.index(field_on_site)))
+    indented(out, "group", &site_map.group_of(index))
 }
 
 /// A cut-out that must not be packed. That the desk refuses it is a result of the day; that it packs it would be none.

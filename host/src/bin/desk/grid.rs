@@ -70,6 +70,12 @@ impl Grid {
         u64::from(place.row) * u64::from(self.columns) + u64::from(self.turned(place).column)
     }
 
+    /// The same for any place. One that the grid does not have is refused.
+    pub fn find(self, place: Place) -> Result<u64, Trouble> {
+        self.holds(&Rectangle::of(place))?;
+        Ok(self.index(place))
+    }
+
     /// The place of the point that stands there in the list.
     pub fn place(self, index: u64) -> Place {
         let columns = u64::from(self.columns);
@@ -80,6 +86,15 @@ impl Grid {
     fn turned(self, place: Place) -> Place {
         let turns = self.alternate && place.row % 2 == 1;
         Place { column: if turns { self.columns - 1 - place.column } else { place.column }, ..place }
+    }
+
+    /// Refuses a grid that does not have as many points as there are.
+    pub fn of(self, points: u64) -> Result<Grid, Trouble> {
+        if self.points() == points {
+            return Ok(self);
+        }
+        let (points, others) = (shown::count(points), shown::count(self.points()));
+        Trouble::host(format!("the map has {points} points, and {self}, would be {others}"))
     }
 
     pub fn whole(self) -> Rectangle {
@@ -168,6 +183,11 @@ fn counted(what: &str, span: &Range<u32>) -> String {
     }
 }
 
+/// What is said where a map has no point at a place of its grid.
+pub fn no_point_at<T>(place: Place) -> Result<T, Trouble> {
+    Trouble::host(format!("there is no {place}"))
+}
+
 /// The points of a map, as unpacking leaves them, in their grid.
 #[derive(Clone, Copy)]
 pub struct Laid<'a> {
@@ -176,20 +196,13 @@ pub struct Laid<'a> {
 }
 
 impl<'a> Laid<'a> {
-    /// Refuses a grid that does not have as many points as there are.
     pub fn new(grid: Grid, points: Points<'a>) -> Result<Laid<'a>, Trouble> {
-        if grid.points() != points.len() as u64 {
-            let (points, others) = (shown::count(points.len() as u64), shown::count(grid.points()));
-            return Trouble::host(format!("the map has {points} points, and {grid}, would be {others}"));
-        }
-        Ok(Laid { grid, points })
+        Ok(Laid { grid: grid.of(points.len() as u64)?, points })
     }
 
     pub fn at(self, place: Place) -> Result<Point, Trouble> {
-        self.grid.holds(&Rectangle::of(place))?;
-        self.points
-            .get(self.grid.index(place) as usize)
-            .map_or_else(|| Trouble::host(format!("there is no {place}")), Ok)
+        let index = self.grid.find(place)?;
+        self.points.get(index as usize).map_or_else(|| no_point_at(place), Ok)
     }
 
     pub fn cut_out(self, rectangle: &Rectangle) -> Result<CutOut, Trouble> {

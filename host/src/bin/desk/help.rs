@@ -56,7 +56,8 @@ impl Topic {
         match self {
             Topic::Info => &["--groups"],
             Topic::Unpack => &["--alternate", "--marks", "--csv"],
-            Topic::Point | Topic::Pack => &["--alternate"],
+            Topic::Point => &["--alternate", "--group"],
+            Topic::Pack => &["--alternate"],
             Topic::List | Topic::Check | Topic::Split | Topic::Day => &[],
         }
     }
@@ -90,12 +91,16 @@ impl Topic {
                 example: "desk unpack gust.grib2 --csv --missing NaN",
             },
             Topic::Point => Text {
-                usage: "desk point MAP [GRID] --column C --row R [--lookahead K]",
+                usage: "desk point MAP [GRID] --column C --row R [--group] [--lookahead K]",
                 what: &[
                     "Reads one point of a map: its number or 'no forecast'; its mark (0 number, 1 and 2 missing); \
                      how Section 5 scales it, which is not done; its place, and the grid that was taken for \
-                     granted; its group in the map.",
-                    "With --lookahead the map is checked first (desk help check).",
+                     granted. Under template 5.2 the point is read by itself, and the map is not unpacked; under \
+                     5.3, where a number is made of those before it, it is.",
+                    "With --group its group in the map is shown too. The desk reads the group fields for that; the \
+                     number is not made of what it finds there.",
+                    "With --lookahead the map is checked first (desk help check), and is unpacked for that. The \
+                     point is still read by itself, and nothing is shown where the unpacked map has another.",
                 ],
                 example: "desk point site --columns 32 --rows 16 --column 11 --row 16 --lookahead 4",
             },
@@ -216,6 +221,6 @@ pub fn text(topic: Option<Topic>) -> String {
     lines.push(status(0, "no error"));
     lines.extend(Refusal::ALL.iter().map(|refusal| status(refusal.number(), refusal.sentence())));
     lines.extend(Why::ALL.iter().map(|why| status(*why as u32, why.sentence())));
-    lines.push(shown::after("", "1 to 14 are the refusals of the calls; 10 and 11 do not come from the desk."));
+    lines.push(shown::after("", "1 to 15 are the refusals of the calls; 10, 11 and 15 do not come from the desk."));
     lines.join("\n") + "\n"
 }

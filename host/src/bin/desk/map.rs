@@ -1,6 +1,6 @@
 //! A map under template 5.2 or 5.3, of two whole sections.
 
-use crate::grid::{Grid, Laid, Typed};
+use crate::grid::{Grid, Laid, Place, Typed};
 use crate::own_groups::{own_groups, OwnGroup};
 use crate::progress::step;
 use crate::shown;
@@ -8,8 +8,8 @@ use crate::source::Sections;
 use crate::trouble::{Trouble, Why};
 use cleatmow::grib2::{self, NoGrid};
 use cleatmow::{
-    lent_points, payload_of, read_section5, unpack_into, Differences, Physical, Points, Refusal, Section5, Template,
-    TemplateNumbers,
+    lent_points, payload_of, point, read_section5, unpack_into, Differences, Physical, Point, Points, Refusal,
+    Section5, Template, TemplateNumbers,
 };
 use std::path::Path;
 
@@ -107,11 +107,46 @@ impl Map {
     pub fn points<'a>(&self, lent: &'a mut Vec<u8>) -> Result<Points<'a>, Trouble> {
         *lent = lent_points(self.declared);
         let doing = || format!("unpacking {} points of {}", shown::count(self.declared), self.name);
-        step(doing, || unpack_into(&self.sections[0], self.payload(), lent)).map_err(|refusal| Trouble::Refused {
-            what: self.name.clone(),
-            refusal,
-            found: self.found(refusal),
-        })
+        step(doing, || unpack_into(&self.sections[0], self.payload(), lent)).map_err(|refusal| self.refused(refusal))
+    }
+
+    fn refused(&self, refusal: Refusal) -> Trouble {
+        Trouble::Refused { what: self.name.clone(), refusal, found: self.found(refusal) }
+    }
+
+    /// The grid of its points, and where the point at a place of it stands in the list.
+    pub fn find(&self, typed: Typed, place: Place) -> Result<(Grid, u32), Trouble> {
+        let grid = self.grid(typed)?.of(self.declared.into())?;
+        // The declared count has four octets, and this is below it.
+        Ok((grid, grid.find(place)? as u32))
+    }
+
+    /// The point that stands there in the list, if there is one. Under 5.2 it is read by itself. Under 5.3 a number is
+    /// made of those before it, so the map is unpacked.
+    pub fn point(&self, index: u32) -> Result<Option<Point>, Trouble> {
+        if self.differences.is_some() {
+            return Ok(self.points(&mut Vec::new())?.get(index as usize));
+        }
+        let doing = || format!("reading one point of {}", self.name);
+        match step(doing, || point(&self.sections[0], self.payload(), index)) {
+            Ok(point) => Ok(Some(point)),
+            Err(Refusal::Place) => Ok(None),
+            Err(refusal) => Err(self.refused(refusal)),
+        }
+    }
+
+    /// The same, held to the map's points. Where it is not one of them the program is at fault, and nothing is shown.
+    pub fn point_among(&self, points: Points, index: u32) -> Result<Option<Point>, Trouble> {
+        let point = self.point(index)?;
+        if point == points.get(index as usize) {
+            return Ok(point);
+        }
+        let place = shown::count(u64::from(index) + 1);
+        Trouble::host(format!(
+            "{}: point {place}, read by itself, is not what it is in the unpacked map: an internal error of the \
+             desk's, and no number is shown",
+            self.name
+        ))
     }
 
     /// Its points in their grid.
@@ -120,7 +155,7 @@ impl Map {
         Laid::new(self.grid(typed)?, points)
     }
 
-    /// Its own groups, where unpacking does not refuse it before it has looked at them.
+    /// Its own groups, where no call refuses it before it has looked at them.
     pub fn groups(&self) -> impl Iterator<Item = OwnGroup> + '_ {
         own_groups(&self.template, self.differences, self.payload())
     }
@@ -153,7 +188,7 @@ impl Map {
         format!("not applied: ({} + number x 2^{binary}) / 10^{decimal}", f32::from_bits(reference))
     }
 
-    /// What unpacking found in this map when it refused it, where that can be said.
+    /// What a call found in this map when it refused it, where that can be said.
     fn found(&self, refusal: Refusal) -> String {
         let template = &self.template;
         match (refusal, self.differences) {
@@ -181,6 +216,37 @@ impl Map {
                 format!("the groups have {points}, and {} are declared", shown::count(self.declared))
             }
             _ => String::new(),
+        }
+    }
+}
+
+#[cfg(test)]
+mod tests {
+    use super::*;
+    use cleatmow::{pack, section7_of};
+
+    fn map(numbers: &[u32]) -> Map {
+        let packing = pack(numbers, 4).unwrap();
+        let section5 = Section5::of_packing(numbers.len() as u32, &packing.template, &Physical::default());
+        let octets = [section5, section7_of(&packing.payload).unwrap()];
+        let [name, place] = ["map", ""].map(String::from);
+        Map::of(Sections { names: [name.clone(), name.clone()], name, place, octets, grid: None }).unwrap()
+    }
+
+    /// Nothing but a fault in the calls comes to that, so another map's points stand in for one.
+    #[test]
+    fn a_point_that_is_another_in_the_unpacked_map() {
+        let (map, other, mut lent) = (map(&[5, 6, 5, 7]), map(&[5, 6, 4]), Vec::new());
+        let points = other.points(&mut lent).unwrap();
+        for (index, number) in [(0, 5), (1, 6)] {
+            assert_eq!(map.point_among(points, index).unwrap(), Some(Point::Number(number)));
+        }
+        assert_eq!(map.point_among(points, 4).unwrap(), None);
+        for (index, place) in [(2, 3), (3, 4)] {
+            let trouble = map.point_among(points, index).unwrap_err();
+            assert_eq!(trouble.status(), Why::Host as u8);
+            let sentence = trouble.sentence().unwrap();
+            assert!(sentence.starts_with(&format!("map: point {place}, read by itself, is not ")), "{sentence}");
         }
     }
 }

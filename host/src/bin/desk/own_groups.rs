@@ -1,5 +1,5 @@
 //! The groups of a map as its own payload has them, for a person to read. No point is made of them: points come from
-//! unpacking alone.
+//! the calls alone.
 
 use crate::shown;
 use cleatmow::{Differences, Template};
@@ -17,7 +17,7 @@ pub struct OwnGroup {
     pub width: u64,
 }
 
-/// The groups of a payload whose group fields unpacking has not refused.
+/// The groups of a payload whose group fields no call has refused.
 pub fn own_groups<'a>(
     template: &Template,
     differences: Option<Differences>,
