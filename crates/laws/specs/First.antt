@@ -1,7 +1,8 @@
 -- Which refusal is the first, from what the code knows at a return. Assumes nothing.
-use Prim.Native.Nat.{ℕ, zero, suc, _<_}
+use Prim.Native.Nat.{ℕ, zero, suc, _≤_, _<_}
 use mathlib.Core.Path.{_≡_, refl, sym, ap, _∙_}
 use mathlib.Core.Bool.{Bool, true, false, not}
+use mathlib.Core.Logic.{_⊎_, inl, inr, ⊎-elim}
 use mathlib.Core.List.{List, [], _∷_, _++_}
 use lib.Dec.{eqb}
 use lib.ListN.{getD, take, drop}
@@ -144,6 +145,28 @@ pub clear-later : (rows more : List Row) → Clear (rows ++ more) → Clear more
 clear-later [] more h = h
 clear-later (t gives r ∷ rows) more h = clear-later rows more (h .1)
 
+-- rows refuse, or none does
+pub record Giving (rows : List Row) : Type 0 where
+  pub refusal : Refusal
+  pub given : Gives (refusalNumber refusal) rows
+
+pub outcome : (rows : List Row) → Clear rows ⊎ Giving rows
+outcome [] = inl tt
+outcome (true gives r ∷ rows) = inr (record { refusal = r; given = (λ e. refl, λ e. absurd (let d : _≡_ {A = ℕ} 0 1 = cc in omega arith)) })
+outcome (false gives r ∷ rows) =
+    ⊎-elim (λ clear. inl (refl, clear))
+    (λ (g : Giving rows). inr (record { refusal = g .refusal; given = (λ e. absurd (let d : _≡_ {A = ℕ} 0 1 = cc in omega arith), λ e. g .given) })) (outcome rows)
+
+-- no row gives a number above n
+abbrev pub UpTo : ℕ → List Row → Type 0
+UpTo n [] = Unit
+UpTo n (t gives r ∷ rows) = (refusalNumber r ≤ n) × UpTo n rows
+
+pub gives-up-to : (n m : ℕ) (rows : List Row) → UpTo n rows → Gives m rows → m ≤ n
+gives-up-to n m [] u h = absurd h
+gives-up-to n m (true gives r ∷ rows) u h = rw (h .0 refl) (u .0)
+gives-up-to n m (false gives r ∷ rows) u h = gives-up-to n m rows (u .1) (h .1 refl)
+
 module _ {A : Type 0} (refused : Refusal → A) where
   -- a return that refuses
   pub decides : (q : Refusal) (rows : List Row) (a : A) → Gives (refusalNumber q) rows → refused q ≡ first refused rows a
@@ -178,6 +201,13 @@ module _ {A : Type 0} (refused : Refusal → A) where
   refusal-stays [] a b e h = absurd (h e)
   refusal-stays (true gives r ∷ rows) a b e h = e
   refusal-stays (false gives r ∷ rows) a b e h = refusal-stays rows a b e h
+
+  -- what is answered where none refuses may be another that is equal there
+  pub first-ext : (rows : List Row) (a b : A) → (Clear rows → a ≡ b) → first refused rows a ≡ first refused rows b
+  unfolding first
+  first-ext [] a b h = h tt
+  first-ext (true gives r ∷ rows) a b h = refl
+  first-ext (false gives r ∷ rows) a b h = first-ext rows a b (λ clear. h (refl, clear))
 
   -- an answer that is no refusal was refused by no row
   pub passed : (rows : List Row) (a : A) {x : A} → x ≡ first refused rows a → ((r : Refusal) → x ≡ refused r → ⊥) → Clear rows × (x ≡ a)

@@ -13,7 +13,7 @@ use Rattle.format.specs.Lists.{listed, total, joined}
 use Rattle.format.specs.Bits.{bitAt, numberAt, fieldOf}
 use Rattle.format.specs.Layout.{pointSize, pointOctets, markOf, heldBy}
 use Rattle.format.specs.Template.{valuesAt}
-use Rattle.format.specs.Unpacking.{Codes, codesOf, referenceOf, groupWidth, groupLength, pointsBefore, bitsBefore, Said, saidBy, isMissing1, isMissing2, decoded, pointOf, pointAt, pointsUpTo}
+use Rattle.format.specs.Unpacking.{Codes, codesOf, referenceOf, groupWidth, groupLength, pointsBefore, bitsBefore, wrongGroup, Said, saidBy, countedRefusals, isMissing1, isMissing2, decoded, pointOf, pointAt, pointsUpTo}
 use Rattle.format.specs.Differences.{raised, restored}
 use Rattle.format.specs.declared.Template.{Template}
 use Rattle.format.specs.declared.DecodedValue.{DecodedValue}
@@ -136,6 +136,11 @@ module _ (start : ℕ) (t : Template) where
     points-same : (g : ℕ) → pointsBefore t codes g ≡ pointsBefore t (codesOf start t b) g
     unfolding pointsBefore
     points-same g = total-ext g _ _ (λ i l. length-same i)
+
+    -- and are refused alike
+    pub counted-same : (declared octets : ℕ) → countedRefusals start t declared octets codes ≡ countedRefusals start t declared octets (codesOf start t b)
+    unfolding groupWidth groupLength wrongGroup bitsBefore pointsBefore
+    counted-same declared octets = rw (widths, lengths)
 
     pub point-own : (d : DecodedValue) (g k : ℕ) → g < t .groups → k < groupLength t codes g → referenceOf codes g ≡ referenceOf (codesOf start t b) g
         → ((i : ℕ) → i < groupWidth t codes g → bitAt a (valuePlace codes g k + i) ≡ bitAt b (valuePlace codes g k + i))

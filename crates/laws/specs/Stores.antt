@@ -5,7 +5,7 @@ use Prim.Native.Nat.{ℕ, zero, suc, _+_, _-_, _*_, _/_, _%_, _^_, _≤_, _<_}
 use native.Mathlib.Nat.{add-zero, add-suc, zero-add, suc-add, suc-mul, zero-mul, add-mul, sub-zero, sub-self, pow-zero, pow-suc, div-div-eq-div-mul, div-eq-of-lt, div-add-mod', div-one, mod-lt, zero-lt-suc}
 use native.Mathlib.Numerals.{add-one}
 use native.Mathlib.Omega.{arith}
-use lib.ListN.{length, getD, set, length-set, length-append, List·getD-append}
+use lib.ListN.{length, getD, take, drop, set, length-set, length-append, List·getD-append}
 use lib.Pow.{pow-add}
 use lib.Seq.{sets, sets-eq, getD-set-same, getD-set-other, take-at, drop-at, drop-append-add, getD-append-add}
 use Rattle.format.specs.Lists.{listed, wholeOnes, _over_}
@@ -84,6 +84,17 @@ module _ {A : Type 0} (octets : A → List ℕ) where
   flat-at size h (x ∷ xs) rest d (suc j) i l m =
       let e : suc j * size + i ≡ length (octets x) + (j * size + i) = omega (arith, h x, suc-mul j size) in
       rw (e, append-assoc (octets x) (flatMap octets xs) rest) (getD-append-add (octets x) (flatMap octets xs ++ rest) (j * size + i) 0 ∙ flat-at size h xs rest d j i (omega arith) m)
+
+  -- the octets of thing j
+  pub flat-cut : (size : ℕ) → ((x : A) → length (octets x) ≡ size) → (xs : List A) (rest : List ℕ) (d : A) (j : ℕ) → j < length xs
+      → take size (drop (j * size) (flatMap octets xs ++ rest)) ≡ octets (getD xs j d)
+  unfolding flatMap
+  flat-cut size h [] rest d j l = absurd (omega arith)
+  flat-cut size h (x ∷ xs) rest d zero l =
+      rw (zero-mul size, append-assoc (octets x) (flatMap octets xs) rest) (take-at (octets x) (flatMap octets xs ++ rest) size (h x))
+  flat-cut size h (x ∷ xs) rest d (suc j) l =
+      let e : suc j * size ≡ length (octets x) + j * size = omega (arith, h x, suc-mul j size) in
+      rw (e, append-assoc (octets x) (flatMap octets xs) rest, drop-append-add (octets x) (flatMap octets xs ++ rest) (j * size)) (flat-cut size h xs rest d j (omega arith))
 
   -- more of them, stored right behind those that are there
   pub flat-over : (size : ℕ) → ((x : A) → length (octets x) ≡ size) → (l : List ℕ) (xs ys : List A) → (length xs + length ys) * size ≤ length l

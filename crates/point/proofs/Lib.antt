@@ -1,3 +1,4 @@
 pub mod Holding
 pub mod Deciding
 pub mod Answering
+pub mod Claims
