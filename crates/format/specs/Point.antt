@@ -14,13 +14,15 @@ use Rattle.format.specs.declared.Named.the-variants as named
 use Rattle.format.specs.declared.Picked.{Picked}
 use Rattle.format.specs.declared.Picked.the-variants as picked
 
--- "refusals 1 to 9 are the same" as unpacking's; "15 when the place is not below the declared count; it comes after 9, and 10 does
--- not arise."
+-- "15 when the place is not below the declared count"
+abbrev pub placeRefusals : ℕ → ℕ → List Row
+placeRefusals place declared =
+    leb declared place gives Place
+    ∷ []
+
+-- "refusals 1 to 9 are the same" as unpacking's; 15 "comes after 9, and 10 does not arise."
 abbrev pub pointRefusals : ℕ → Template → ℕ → ℕ → Codes → List Row
-pointRefusals place t declared octets codes =
-    counted52 t declared octets codes
-    ++ (leb declared place gives Place
-    ∷ [])
+pointRefusals place t declared octets codes = counted52 t declared octets codes ++ placeRefusals place declared
 
 -- "For template 5.2, answer one point (mark and number) from its place in the list. With room enough for the map, the answer equals
 -- that place in the full unpacking": of the points that `unpack52` gives. Where none refuses, there is one at the place.

@@ -13,7 +13,7 @@ use Rattle.format.specs.Refusals.{Row, _gives_, first, refusalNumber, roomRefus
 use Rattle.format.specs.Layout.{pointSize, pointOctets}
 use Rattle.format.specs.Template.{kindRefusals}
 use Rattle.format.specs.Unpacking.{Codes, codesOf, groupLength, pointsBefore, saidBy, pointsUpTo, countedRefusals, counted52, unpack52}
-use Rattle.format.specs.Point.{pointRefusals, point52}
+use Rattle.format.specs.Point.{placeRefusals, pointRefusals, point52}
 use Rattle.format.specs.declared.Refusal.{Refusal}
 use Rattle.format.specs.declared.Refusal.the-variants.{Place}
 use Rattle.format.specs.declared.Template.{Template}
@@ -30,6 +30,14 @@ use Rattle.laws.specs.Stores.{flat-cut}
 use Rattle.point.specs.Claims.{octetsAt, AsUnpacked, IsUnpacked, Answered, PlaceOfUnpacking, Own, Agree, DependsOnlyOn, NumberThree}
 use Rattle.point.proofs.Holding.{holds, passes, below}
 
+-- ---- an answer is a point or a refusal, and not both
+
+picked-once : {A : Type 0} {x : Picked} {point : DecodedValue} {r : Refusal} → x ≡ picked.Point point → x ≡ picked.Refused r → A
+picked-once p q = absurd (let d : _≡_ {A = ℕ} 0 1 = cc in omega arith)
+
+unpacked-once : {A : Type 0} {x : Unpacked} {n : ℕ} {r : Refusal} → x ≡ unpacked.Points n → x ≡ unpacked.Refused r → A
+unpacked-once p q = absurd (let d : _≡_ {A = ℕ} 0 1 = cc in omega arith)
+
 -- ---- the place of unpacking
 
 module _ (place : ℕ) (t : Template) (declared : ℕ) (payload lent : List ℕ) (room : declared * pointSize ≤ length lent) where
@@ -43,11 +51,11 @@ module _ (place : ℕ) (t : Template) (declared : ℕ) (payload lent : List ℕ)
   points = pointsUpTo t (saidBy 0 t payload) (t .groups)
 
   abbrev placed : Picked
-  placed = first picked.Refused (leb declared place gives Place ∷ []) (picked.Point (getD points place Missing1))
+  placed = first picked.Refused (placeRefusals place declared) (picked.Point (getD points place Missing1))
 
   point-first : point52 place t declared payload ≡ first picked.Refused rows placed
   unfolding point52 saidBy
-  point-first = first-joined picked.Refused rows (leb declared place gives Place ∷ []) (picked.Point (getD points place Missing1))
+  point-first = first-joined picked.Refused rows (placeRefusals place declared) (picked.Point (getD points place Missing1))
 
   roomy : Clear (roomRefusals pointSize lent declared)
   roomy = omega (arith, tests)
@@ -76,11 +84,11 @@ module _ (place : ℕ) (t : Template) (declared : ℕ) (payload lent : List ℕ)
         let p = point-given in
         let u = unpack-given in
         record {
-          refused = λ r l. (λ e. (let same : g .refusal ≡ r = cc in u ∙ ap unpacked.Refused same), λ e. (let same : g .refusal ≡ r = cc in p ∙ ap picked.Refused same));
-          past = (λ e. (let same : g .refusal ≡ Place = cc in absurd (omega (arith, low, ap refusalNumber same))), λ e. absurd (let u′ = e .0 in let d : _≡_ {A = ℕ} 0 1 = cc in omega arith));
-          no-other = λ r e. (let same : g .refusal ≡ r = cc in inl (omega (arith, low, ap refusalNumber same)));
-          same = λ point e. absurd (let d : _≡_ {A = ℕ} 0 1 = cc in omega arith);
-          there = λ e l. absurd (let d : _≡_ {A = ℕ} 0 1 = cc in omega arith);
+          refused = λ r l. (λ q. (let same : g .refusal ≡ r = cc in u ∙ ap unpacked.Refused same), λ q. (let same : g .refusal ≡ r = cc in p ∙ ap picked.Refused same));
+          past = (λ q. (let same : g .refusal ≡ Place = cc in absurd (omega (arith, low, ap refusalNumber same))), λ q. unpacked-once (q .0) u);
+          no-other = λ r q. (let same : g .refusal ≡ r = cc in inl (omega (arith, low, ap refusalNumber same)));
+          same = λ point q. picked-once q p;
+          there = λ q l. unpacked-once q u;
         }
 
   -- none refuses unpacking
@@ -118,10 +126,10 @@ module _ (place : ℕ) (t : Template) (declared : ℕ) (payload lent : List ℕ)
             let p = no-place past in
             let u = answer-is in
             record {
-              refused = λ r l. (λ q. (let same : r ≡ Place = cc in absurd (omega (arith, l, ap refusalNumber same))), λ q. absurd (let d : _≡_ {A = ℕ} 0 1 = cc in omega arith));
+              refused = λ r l. (λ q. (let same : r ≡ Place = cc in absurd (omega (arith, l, ap refusalNumber same))), unpacked-once u);
               past = (λ q. (u, past), λ q. p);
               no-other = λ r q. (let same : r ≡ Place = cc in inr same);
-              same = λ point q. absurd (let d : _≡_ {A = ℕ} 0 1 = cc in omega arith);
+              same = λ point q. picked-once q p;
               there = λ q l. absurd (omega (arith, l, past));
             }
         by-test false e =
@@ -129,9 +137,9 @@ module _ (place : ℕ) (t : Template) (declared : ℕ) (payload lent : List ℕ)
             let p = a-place under in
             let u = answer-is in
             record {
-              refused = λ r l. (λ q. absurd (let d : _≡_ {A = ℕ} 0 1 = cc in omega arith), λ q. absurd (let d : _≡_ {A = ℕ} 0 1 = cc in omega arith));
-              past = (λ q. absurd (let d : _≡_ {A = ℕ} 0 1 = cc in omega arith), λ q. absurd (omega (arith, q .1, under)));
-              no-other = λ r q. absurd (let d : _≡_ {A = ℕ} 0 1 = cc in omega arith);
+              refused = λ r l. (picked-once p, unpacked-once u);
+              past = (picked-once p, λ q. absurd (omega (arith, q .1, under)));
+              no-other = λ r q. picked-once p q;
               same = λ point q. (let is : getD points place Missing1 ≡ point = cc in (u, under, octets-are under ∙ ap pointOctets is));
               there = λ q l. record { point = getD points place Missing1; is = p };
             }
@@ -152,7 +160,7 @@ module _ (place : ℕ) (t : Template) (declared : ℕ) (a b : List ℕ) (agree :
   rows-same : rowsIn a ≡ rowsIn b
   rows-same =
       rw (agree .octets)
-      (ap (λ (rows : List Row). kindRefusals t ++ rows ++ (leb declared place gives Place ∷ [])) (counted-same 0 t a b (agree .widths) (agree .lengths) declared (length b)))
+      (ap (λ (rows : List Row). kindRefusals t ++ rows ++ (placeRefusals place declared)) (counted-same 0 t a b (agree .widths) (agree .lengths) declared (length b)))
 
   -- the point that no row refuses
   own : Clear (rowsIn a) → Own place t declared a (holderOf t codesA place (t .groups)) (place - pointsBefore t codesA (holderOf t codesA place (t .groups)))

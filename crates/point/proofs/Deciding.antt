@@ -9,6 +9,7 @@ use lib.ListN.{length}
 use Rattle.format.specs.Refusals.{Row, _gives_, refusalNumber, first, limit, countRefusals}
 use Rattle.format.specs.Template.{kindRefusals}
 use Rattle.format.specs.Unpacking.{Codes, codesOf, pointsBefore, bitsBefore, placesOf, locatedRefusals}
+use Rattle.format.specs.Point.{placeRefusals}
 use Rattle.format.specs.declared.Refusal.{Refusal}
 use Rattle.format.specs.declared.Refusal.the-variants.{Points, Place}
 use Rattle.format.specs.declared.Template.{Template}
@@ -34,7 +35,7 @@ module _ (place : ℕ) (t : Template) (declared : ℕ) (payload : List ℕ) wher
 
   -- 9, then 15
   abbrev lastRows : ℕ → List Row
-  lastRows points = countRefusals points declared ++ (leb declared place gives Place ∷ [])
+  lastRows points = countRefusals points declared ++ (placeRefusals place declared)
 
   abbrev heldOf : Surveyed → Held
   heldOf (surveyed.At places points holder) = first held.Refused (lastRows points) (held.Group (heldGroup t codes (places .values .0) holder))
@@ -58,7 +59,7 @@ module _ (place : ℕ) (t : Template) (declared : ℕ) (payload : List ℕ) wher
       rows-left = rw e at rows-are
 
       pub held-other : Gives (refusalNumber Points) (countRefusals points declared) → held.Refused Points ≡ held52 place t declared payload
-      held-other h = decides held.Refused Points _ _ (gives-front (refusalNumber Points) (countRefusals points declared) (leb declared place gives Place ∷ []) h) ∙ rows-left
+      held-other h = decides held.Refused Points _ _ (gives-front (refusalNumber Points) (countRefusals points declared) (placeRefusals place declared) h) ∙ rows-left
 
       module _ (clear : Clear (countRefusals points declared)) where
         pub held-past : declared ≤ place → held.Refused Place ≡ held52 place t declared payload

@@ -9,7 +9,7 @@ use lib.ListN.{length, getD}
 use Rattle.format.specs.Refusals.{Row, _gives_, limit}
 use Rattle.format.specs.Template.{valuesAt, kindRefusals}
 use Rattle.format.specs.Unpacking.{Codes, codesOf, groupWidth, groupLength, pointsBefore, bitsBefore, placesOf, saidBy, pointsUpTo, counted52}
-use Rattle.format.specs.Point.{pointRefusals}
+use Rattle.format.specs.Point.{placeRefusals, pointRefusals}
 use Rattle.format.specs.declared.Refusal.the-variants.{Place}
 use Rattle.format.specs.declared.Template.{Template}
 use Rattle.format.specs.declared.DecodedValue.the-variants.{Missing1}
@@ -64,7 +64,7 @@ module _ (place : ℕ) (t : Template) (declared : ℕ) (payload : List ℕ) wher
 
   module _ (clear : Clear (pointRefusals place t declared (length payload) codes)) where
     pub passes : Counted 0 t declared (length payload) codes
-    passes = counted (kindRefusals t) 0 t declared (length payload) codes (clear-front (counted52 t declared (length payload) codes) (leb declared place gives Place ∷ []) clear)
+    passes = counted (kindRefusals t) 0 t declared (length payload) codes (clear-front (counted52 t declared (length payload) codes) (placeRefusals place declared) clear)
 
     pub below : place < declared
-    below = leb-false declared place (clear-later (counted52 t declared (length payload) codes) (leb declared place gives Place ∷ []) clear .0)
+    below = leb-false declared place (clear-later (counted52 t declared (length payload) codes) (placeRefusals place declared) clear .0)
