@@ -199,12 +199,8 @@ pub fn point_of(template: Template, width: usize, reference: u32, value: u32) ->
     ensures { λ r. ⌜ r ≡ pointOf template width reference value ⌝ }
 {
     if width == 0 {
-        return decoded(
-            template,
-            places::small(template.width),
-            reference,
-            reference,
-        );
+        let number_width = places::small(template.width);
+        return decoded(template, number_width, reference, reference);
     }
     decoded(template, width, value, value + reference)
 }

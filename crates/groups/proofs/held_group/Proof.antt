@@ -11,4 +11,4 @@ held-group-spec =
     (λ c. search needs)
     (λ c κs. search needs)
     (λ c κs. search needs)
-    (λ c. cc))
+    (λ c. rw (c .before .reference-of .ensures, c .width-of .ensures, c .before .before .before .before .first-bit .ensures)))
