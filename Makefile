@@ -35,8 +35,9 @@ compare:
 	@cd oracle && $(CARGO) run --bin compare
 
 # Hostile input, in minutes: a million damaged copies of good inputs through each C call, with guard octets about every
-# buffer; then fewer, in blocks of their own size, under valgrind, where it is there and the machine is x86-64; and 10,000
-# damaged GRIB2 files through the command. A few thousand are part of `host`.
+# buffer; then fewer, in blocks of their own size, under valgrind, where it is there and the machine is x86-64; 10,000
+# damaged GRIB2 files through the command; and one point by itself at every place of a real map. A few thousand of each are
+# part of `host`.
 MEMCHECK := ["valgrind", "--quiet", "--error-exitcode=1", "--redzone-size=256"]
 hostile:
 	@cd host && $(CARGO) test --release --test hostile -- --ignored --exact --nocapture a_million_of_each
@@ -50,6 +51,7 @@ hostile:
 		echo "Not run under valgrind: it is not installed."; \
 	fi
 	@cd host && $(CARGO) test --release --test desk -- --ignored --exact chance::ten_thousand_damaged_files
+	@cd host && $(CARGO) test --release --test point -- --ignored --exact every_place_of_the_real_map
 
 # The live comparison at scale, in minutes: millions of inputs for each operation, and the tables of docs/DIFFERENCES.md.
 oracle:

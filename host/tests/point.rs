@@ -198,6 +198,18 @@ fn real_maps() {
     assert_eq!(real!("ndfd-puerto-rico-339x224").hold(&[0, 75_935, 75_936]), [14; 3]);
 }
 
+/// Every place of the continental United States beside its full unpacking.
+#[test]
+#[ignore = "takes minutes: make hostile"]
+fn every_place_of_the_real_map() {
+    let map = real!("ndfd-conus-1073x689");
+    let points = unpack(&map.section5, &map.payload).unwrap();
+    assert_eq!(points.len(), 739_297);
+    for (place, unpacked) in (0..).zip(points) {
+        assert_eq!(point(&map.section5, &map.payload, place), Ok(unpacked), "place {place}");
+    }
+}
+
 /// Groups of no points are passed over, wherever they stand and whatever their width is: four groups of lengths 0, 1
 /// and 3 and widths 0 and 3, under each missing management, with references and without. The last length code is
 /// another length's.

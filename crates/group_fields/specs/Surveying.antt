@@ -4,7 +4,7 @@ use mathlib.Core.List.{List, _++_}
 use lib.ListN.{length}
 use Rattle.format.specs.Refusals.{Row, first}
 use Rattle.format.specs.Template.{kindRefusals}
-use Rattle.format.specs.Unpacking.{Codes, codesOf, pointsBefore, bitsBefore, placesOf, locatedRefusals, locatedBy}
+use Rattle.format.specs.Unpacking.{Codes, codesOf, pointsBefore, bitsBefore, placesOf, locatedRefusals}
 use Rattle.format.specs.declared.Template.{Template}
 use Rattle.format.specs.declared.Located.{Located}
 use Rattle.format.specs.declared.Located.the-variants as located

@@ -2,17 +2,17 @@
 use mathlib.Core.Path.{_≡_, refl, sym, ap, _∙_}
 use mathlib.Core.Bool.{Bool, true, false}
 use mathlib.Core.Logic.{_⊎_, inl, inr, ⊎-elim}
-use mathlib.Core.List.{List, [], _∷_, _++_, flatMap}
+use mathlib.Core.List.{List, _++_, flatMap}
 use Prim.Native.Nat.{ℕ, _+_, _-_, _*_, _≤_, _<_}
 use native.Mathlib.Omega.{arith}
 use borrow.Author.Tests.{leb-true, leb-false, le-leb, lt-leb}
 use lib.Dec.{leb}
 use lib.ListN.{length, getD}
 use Rattle.format.specs.Lists.{_over_}
-use Rattle.format.specs.Refusals.{Row, _gives_, first, refusalNumber, roomRefusals, Left, left}
+use Rattle.format.specs.Refusals.{Row, first, refusalNumber, roomRefusals, Left, left}
 use Rattle.format.specs.Layout.{pointSize, pointOctets}
 use Rattle.format.specs.Template.{kindRefusals}
-use Rattle.format.specs.Unpacking.{Codes, codesOf, groupLength, pointsBefore, saidBy, pointsUpTo, countedRefusals, counted52, unpack52}
+use Rattle.format.specs.Unpacking.{Codes, codesOf, pointsBefore, saidBy, pointsUpTo, counted52, unpack52}
 use Rattle.format.specs.Point.{placeRefusals, pointRefusals, point52}
 use Rattle.format.specs.declared.Refusal.{Refusal}
 use Rattle.format.specs.declared.Refusal.the-variants.{Place}
@@ -23,11 +23,11 @@ use Rattle.format.specs.declared.Unpacked.{Unpacked}
 use Rattle.format.specs.declared.Unpacked.the-variants as unpacked
 use Rattle.format.specs.declared.Picked.{Picked}
 use Rattle.format.specs.declared.Picked.the-variants as picked
-use Rattle.laws.specs.Accepting.{Counted, counted}
-use Rattle.laws.specs.First.{Clear, Giving, outcome, gives-up-to, clear-join, decides, clears, first-ext, first-joined, first-through, tests}
-use Rattle.laws.specs.Points.{size-point, length-points, Holds, holderOf, counted-same, point-own}
+use Rattle.laws.specs.Accepting.{counted}
+use Rattle.laws.specs.First.{Clear, Giving, outcome, gives-up-to, decides, clears, first-ext, first-joined, tests}
+use Rattle.laws.specs.Points.{size-point, length-points, holderOf, counted-same, point-own}
 use Rattle.laws.specs.Stores.{flat-cut}
-use Rattle.point.specs.Claims.{octetsAt, AsUnpacked, IsUnpacked, Answered, PlaceOfUnpacking, Own, Agree, DependsOnlyOn, NumberThree}
+use Rattle.point.specs.Claims.{octetsAt, AsUnpacked, PlaceOfUnpacking, Own, Agree, NumberThree}
 use Rattle.point.proofs.Holding.{holds, passes, below}
 
 -- ---- an answer is a point or a refusal, and not both

@@ -1,14 +1,13 @@
 -- What is decided once the groups are walked is what document 02's rows decide. Assumes nothing.
 use mathlib.Core.Path.{_≡_, refl, sym, ap, _∙_}
-use mathlib.Core.List.{List, [], _∷_, _++_}
+use mathlib.Core.List.{List, _++_}
 use Prim.Native.Nat.{ℕ, _^_, _≤_, _<_}
 use native.Mathlib.Omega.{arith}
 use borrow.Author.Tests.{le-leb, lt-leb}
-use lib.Dec.{leb}
 use lib.ListN.{length}
-use Rattle.format.specs.Refusals.{Row, _gives_, refusalNumber, first, limit, countRefusals}
+use Rattle.format.specs.Refusals.{Row, refusalNumber, first, limit, countRefusals}
 use Rattle.format.specs.Template.{kindRefusals}
-use Rattle.format.specs.Unpacking.{Codes, codesOf, pointsBefore, bitsBefore, placesOf, locatedRefusals}
+use Rattle.format.specs.Unpacking.{Codes, codesOf, pointsBefore, placesOf, locatedRefusals}
 use Rattle.format.specs.Point.{placeRefusals}
 use Rattle.format.specs.declared.Refusal.{Refusal}
 use Rattle.format.specs.declared.Refusal.the-variants.{Points, Place}

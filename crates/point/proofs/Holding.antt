@@ -1,16 +1,14 @@
 -- What a place has that no row refuses: a group that holds it, and in it the point. Assumes nothing.
 use mathlib.Core.Path.{_≡_, refl, sym, ap, _∙_}
-use mathlib.Core.List.{List, [], _∷_, _++_}
-use Prim.Native.Nat.{ℕ, _+_, _-_, _*_, _^_, _≤_, _<_}
+use mathlib.Core.List.{List}
+use Prim.Native.Nat.{ℕ, _+_, _-_, _^_, _≤_, _<_}
 use native.Mathlib.Omega.{arith}
 use borrow.Author.Tests.{leb-false}
-use lib.Dec.{leb}
 use lib.ListN.{length, getD}
-use Rattle.format.specs.Refusals.{Row, _gives_, limit}
+use Rattle.format.specs.Refusals.{limit}
 use Rattle.format.specs.Template.{valuesAt, kindRefusals}
-use Rattle.format.specs.Unpacking.{Codes, codesOf, groupWidth, groupLength, pointsBefore, bitsBefore, placesOf, saidBy, pointsUpTo, counted52}
+use Rattle.format.specs.Unpacking.{Codes, codesOf, groupLength, pointsBefore, bitsBefore, placesOf, saidBy, pointsUpTo, counted52}
 use Rattle.format.specs.Point.{placeRefusals, pointRefusals}
-use Rattle.format.specs.declared.Refusal.the-variants.{Place}
 use Rattle.format.specs.declared.Template.{Template}
 use Rattle.format.specs.declared.DecodedValue.the-variants.{Missing1}
 use Rattle.laws.specs.Accepting.{Passing, Counted, counted, laid}
