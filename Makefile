@@ -36,8 +36,8 @@ compare:
 
 # Hostile input, in minutes: a million damaged copies of good inputs through each C call, with guard octets about every
 # buffer; then fewer, in blocks of their own size, under valgrind, where it is there and the machine is x86-64; 10,000
-# damaged GRIB2 files through the command; and one point by itself at every place of a real map. A few thousand of each are
-# part of `host`.
+# damaged GRIB2 files through the command; and one point by itself at every place of a real map. A few thousand damaged
+# inputs, 1,000 files and 1,636 places are part of `host`.
 MEMCHECK := ["valgrind", "--quiet", "--error-exitcode=1", "--redzone-size=256"]
 hostile:
 	@cd host && $(CARGO) test --release --test hostile -- --ignored --exact --nocapture a_million_of_each

@@ -19,7 +19,7 @@
 /*
  * What each call takes, by its names in the header and in their order: a number of a type; a slice that is read or one
  * that is lent, which is a pointer and a length; a place for one value of a type, which is a pointer alone. These four
- * are in capitals, which no name of the header's is.
+ * are in capitals, which no argument of the header's is.
  */
 #define unpack_TAKES(NUMBER, READ, LENT, PLACE) READ(section5), READ(payload), LENT(points)
 #define point_TAKES(NUMBER, READ, LENT, PLACE) \

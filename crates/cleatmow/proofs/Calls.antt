@@ -39,13 +39,13 @@ module _ (declared : ℕ) (payload lent : List ℕ) (asked : Template) {t : Temp
   pub spatial-called : (d : Differencing) → left answer buffer ≡ unpack53 t d declared payload lent → left n buffer ≡ called unpackedNumber (unpack53 asked d declared payload lent)
   spatial-called d e = called-is unpackedNumber (unpack53 asked d declared payload lent) (rw et at e) en
 
-module _ (outcome : Picked) (mark : ℕ) (number : ℤ) {picks : Picked} (e : picks ≡ outcome) where
+module _ (outcome : Picked) (mark : ℕ) (held : ℤ) {picks : Picked} (e : picks ≡ outcome) where
   pub point-refused : {r : Refusal} {n : ℕ} → picks ≡ picked.Refused r → n ≡ refusalNumber r
-      → record { answer = n; mark = mark; number = number } ≡ calledPoint outcome mark number
+      → record { number = n; mark = mark; held = held } ≡ calledPoint outcome mark held
   point-refused d en = rw (← e, d, en)
 
   pub point-done : {point : DecodedValue} {m : ℕ} {z : ℤ} → picks ≡ picked.Point point → m ≡ markOf point → z ≡ heldBy point
-      → record { answer = 0; mark = m; number = z } ≡ calledPoint outcome mark number
+      → record { number = 0; mark = m; held = z } ≡ calledPoint outcome mark held
   point-done d em ez = rw (← e, d, em, ez)
 
 module _ (outcome : LeftPacked) {answer : Packed} {groups payload summary : List ℕ}

@@ -17,16 +17,17 @@ called number outcome = left (number (outcome .answer)) (outcome .buffer)
 abbrev pub givenDifferencing : ℕ → ℕ → Differencing
 givenDifferencing order octets = record { order = order; octets = octets }
 
--- what the call for one point comes to: its number, and the two places that were lent for a point, as they are left
+-- what the call for one point comes to: its number, and the two values that were lent for a point's mark and number, as they are
+-- left
 pub record PointCall : Type 0 where
-  pub answer : ℕ
+  pub number : ℕ
   pub mark : ℕ
-  pub number : ℤ
+  pub held : ℤ
 
--- "one point (mark and number)"; a refusal leaves both places as they were
+-- "one point (mark and number)"; a refusal leaves both values as they were
 abbrev pub calledPoint : Picked → ℕ → ℤ → PointCall
-calledPoint (picked.Point point) mark number = record { answer = pickedNumber (picked.Point point); mark = markOf point; number = heldBy point }
-calledPoint (picked.Refused r) mark number = record { answer = pickedNumber (picked.Refused r); mark = mark; number = number }
+calledPoint (picked.Point point) mark held = record { number = pickedNumber (picked.Point point); mark = markOf point; held = heldBy point }
+calledPoint (picked.Refused r) mark held = record { number = pickedNumber (picked.Refused r); mark = mark; held = held }
 
 -- what packing's call comes to: its number, and what was lent, as it is left
 pub record PackCall : Type 0 where

@@ -163,7 +163,7 @@ pub extern "C" fn cleatmow_point(
     mark: &mut u8,
     number: &mut i64,
 ) -> u32
-    ensures { λ r. ⌜ record { answer = r; mark = now (mark .exit); number = now (number .exit) } ≡ calledPoint (pointSection5 place (now (section5 .entry)) (now (payload .entry))) (now (mark .entry)) (now (number .entry)) ⌝ }
+    ensures { λ r. ⌜ record { number = r; mark = now (mark .exit); held = now (number .exit) } ≡ calledPoint (pointSection5 place (now (section5 .entry)) (now (payload .entry))) (now (mark .entry)) (now (number .entry)) ⌝ }
 {
     match point::point(section5, payload, place) {
         Picked::Refused(refusal) => refusal_number(refusal),

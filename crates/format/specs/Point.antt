@@ -4,7 +4,7 @@ use mathlib.Core.List.{List, [], _∷_, _++_}
 use lib.Dec.{leb}
 use lib.ListN.{length, getD}
 use Rattle.format.specs.Refusals.{Row, _gives_, first}
-use Rattle.format.specs.Unpacking.{Codes, saidBy, pointsUpTo, counted52}
+use Rattle.format.specs.Unpacking.{codesOf, saidBy, pointsUpTo, counted52}
 use Rattle.format.specs.Section5.{namedBy}
 use Rattle.format.specs.declared.Refusal.the-variants.{Section5, Place}
 use Rattle.format.specs.declared.Template.{Template}
@@ -21,16 +21,15 @@ placeRefusals place declared =
     ∷ []
 
 -- "refusals 1 to 9 are the same" as unpacking's; 15 "comes after 9, and 10 does not arise."
-abbrev pub pointRefusals : ℕ → Template → ℕ → ℕ → Codes → List Row
-pointRefusals place t declared octets codes = counted52 t declared octets codes ++ placeRefusals place declared
+abbrev pub pointRefusals : ℕ → Template → ℕ → List ℕ → List Row
+pointRefusals place t declared payload = counted52 t declared (length payload) (codesOf 0 t payload) ++ placeRefusals place declared
 
 -- "For template 5.2, answer one point (mark and number) from its place in the list. With room enough for the map, the answer equals
 -- that place in the full unpacking": of the points that `unpack52` gives. Where none refuses, there is one at the place.
 unfoldable pub point52 : ℕ → Template → ℕ → List ℕ → Picked
 point52 place t declared payload =
-    let said = saidBy 0 t payload in
-    first picked.Refused (pointRefusals place t declared (length payload) (said .codes))
-    (picked.Point (getD (pointsUpTo t said (t .groups)) place Missing1))
+    first picked.Refused (pointRefusals place t declared payload)
+    (picked.Point (getD (pointsUpTo t (saidBy 0 t payload) (t .groups)) place Missing1))
 
 -- by the octets of Section 5, as in No. 1. One of template 5.3 is none of 5.2: 14
 abbrev pub pointNamed : ℕ → Named → List ℕ → Picked

@@ -214,9 +214,12 @@ sentences =
     ∷ readingSection5 (set octets52 19 200) 80 shows numbers (inFours (set fields52 7 200))
     ∷ writingSection5 (set fields52 7 200) 47 shows spanned 47 (set octets52 19 200)
     ∷ unpackingSection5 (set octets52 19 200) (0xBC ∷ 0x80 ∷ 0x40 ∷ []) 36 shows refused 5 (lent 36 ∷ [])
-    -- document 02, No. 3: "15 [..] comes after 9, and 10 does not arise": all faults at once, then one fewer each time
+    -- document 02, No. 3, by Section 5: 14 before all others; a Section 5 of 5.3 is 14, "For template 5.2"
     ∷ pickingSection5 5 (set (set octets52 4 6) 21 0) [] shows refused 14 []
     ∷ pickingSection5 5 (set octets52 21 0) [] shows refused 1 []
+    ∷ pickingSection5 0 octets53 (0x0A ∷ 0x82 ∷ 0x0C ∷ 0x50 ∷ []) shows refused 14 []
+    -- 15 "comes after 9, and 10 does not arise": all faults at once, then one fewer each time
+    ∷ picking 5 (templateBy 32 0 3 0 32 0 0 0 4 0) 5 [] shows refused 1 []
     ∷ picking 5 (templateBy 32 1 3 0 32 0 0 0 4 0) 5 [] shows refused 2 []
     ∷ picking 5 (templateBy 32 1 0 0 32 0 0 0 4 0) 5 [] shows refused 6 []
     ∷ picking 5 (templateBy 32 1 0 1 32 0 0 0 4 0) 5 [] shows refused 5 []
@@ -226,8 +229,13 @@ sentences =
     ∷ picking 5 (templateBy 8 1 0 1 3 0 0 0 4 0) 5 (0x00 ∷ 0x0C ∷ 0x50 ∷ []) shows refused 9 []
     ∷ picking 5 (templateBy 8 1 0 1 3 0 0 0 4 0) 4 (0x00 ∷ 0x0C ∷ 0x50 ∷ []) shows refused 15 []
     ∷ picking 3 (templateBy 8 1 0 1 3 0 0 0 4 0) 4 (0x00 ∷ 0x0C ∷ 0x50 ∷ []) shows point (number 5)
-    -- "For template 5.2": a Section 5 of 5.3 is 14
-    ∷ pickingSection5 0 octets53 (0x0A ∷ 0x82 ∷ 0x0C ∷ 0x50 ∷ []) shows refused 14 []
+    -- the declared count and its limit
+    ∷ picking 4194305 (template 0 0 1 0 0 0 0 4194305 0) 4194305 [] shows refused 9 []
+    ∷ picking 4194304 (template 0 0 1 0 0 0 0 4194304 0) 4194304 [] shows refused 15 []
+    -- missing 2; values of the next group right behind those of the one before: 0 0 of width 2 for reference 0, 1 2 of width 2
+    -- for reference 8, and 9
+    ∷ picking 2 (template 2 0 1 2 0 0 0 4 0) 4 (0x1B ∷ []) shows point Missing2
+    ∷ picking 3 (template 0 4 3 0 2 2 0 1 0) 5 (0x08 ∷ 0x90 ∷ 0xA0 ∷ 0x06 ∷ []) shows point (number 10)
     -- groups of no points are passed over, before, between and behind others: lengths 0, 1, 0, 1, 0 of references 5 to 9
     ∷ picking 0 (template 0 8 5 0 0 0 1 0 1) 2 (5 ∷ 6 ∷ 7 ∷ 8 ∷ 9 ∷ 0x50 ∷ []) shows point (number 6)
     ∷ picking 1 (template 0 8 5 0 0 0 1 0 1) 2 (5 ∷ 6 ∷ 7 ∷ 8 ∷ 9 ∷ 0x50 ∷ []) shows point (number 8)

@@ -16,7 +16,7 @@ use Rattle.format.specs.declared.Refusal.the-variants.{Short}
 use Rattle.laws.specs.Accepting.{Found, found-52}
 use Rattle.laws.specs.First.{decides, leaves, first-through, passed, tests}
 use Rattle.groups.specs.declared.Walk.{Walk}
-use Rattle.groups.specs.Walk.{nearestOf}
+use Rattle.groups.specs.Walk.{holderWalk}
 use Rattle.group_fields.specs.Surveying.{surveyedBy, surveyedIn, survey52, locatedOf}
 use Rattle.group_fields.specs.declared.Surveyed.{Surveyed}
 use Rattle.group_fields.specs.declared.Surveyed.the-variants as surveyed
@@ -61,8 +61,7 @@ located-52 t payload place ex ey = located-by _ 0 t (codesOf 0 t payload) place 
 pub record Walked52 (t : Template) (payload : List ℕ) (place : ℕ) (places : Places) (points : ℕ) (holder : Walk) : Type 0 where
   pub found : Found t payload places points
   pub begins : places .references .0 ≡ 0
-  pub values : places .values .0 ≡ valuesAt 0 t
-  pub nearest : holder ≡ nearestOf t (codesOf 0 t payload) place (t .groups)
+  pub holder-is : holder ≡ holderWalk t (codesOf 0 t payload) place (t .groups)
 
 pub walked-52 : (t : Template) (payload : List ℕ) (place : ℕ) {x : Surveyed} {places : Places} {points : ℕ} {holder : Walk}
     → x ≡ survey52 t payload place → x ≡ surveyed.At places points holder → Walked52 t payload place places points holder
@@ -73,6 +72,5 @@ walked-52 t payload place {x} {places} ex e =
     record {
       found = found-52 t payload (located-52 t payload place ex (parts-at e));
       begins = rw same;
-      values = rw same;
-      nearest = cc (h .1);
+      holder-is = cc (h .1);
     }

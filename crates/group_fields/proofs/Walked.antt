@@ -15,8 +15,8 @@ use Rattle.format.specs.declared.Refusal.the-variants.{GroupSize, Short}
 use Rattle.laws.specs.First.{decides, clears, tests}
 use Rattle.laws.specs.Lists.{length-listed, getD-listed, any-here, any-later, any-end}
 use Rattle.groups.specs.declared.Walk.{Walk}
-use Rattle.groups.specs.Walk.{Walking, nearestOf, atFirst, Further}
-use Rattle.groups.proofs.Walking.{walking-start, walking-step, nearest-start, nearest-step}
+use Rattle.groups.specs.Walk.{Walking, holderWalk, atFirst, Further}
+use Rattle.groups.proofs.Walking.{walking-start, walking-step, holder-start, holder-step}
 use Rattle.group_fields.specs.Surveying.{surveyedBy}
 use Rattle.group_fields.specs.declared.Surveyed.{Surveyed}
 use Rattle.group_fields.specs.declared.Surveyed.the-variants as surveyed
@@ -46,10 +46,10 @@ wrongFrom t codes g = anyOf (wrongGroup t codes) (drop g (listed (t .groups) (λ
 pub record Walked (t : Template) (codes : Codes) (place : ℕ) (holder walk : Walk) : Type 0 where
   pub walking : Walking t codes walk
   pub right : wrongFrom t codes 0 ≡ wrongFrom t codes (walk .group)
-  pub near : holder ≡ nearestOf t codes place (walk .group)
+  pub holder-is : holder ≡ holderWalk t codes place (walk .group)
 
 pub walked-start : (t : Template) (codes : Codes) (place : ℕ) → Walked t codes place atFirst atFirst
-walked-start t codes place = record { walking = walking-start; right = refl; near = nearest-start t codes place }
+walked-start t codes place = record { walking = walking-start; right = refl; holder-is = holder-start t codes place }
 
 module _ {t : Template} {codes : Codes} {place : ℕ} {holder walk : Walk} {n : ℕ} (w : Walked t codes place holder walk) (en : (n ≡ t .groups) × (n < 2 ^ 32)) where
   abbrev answer : ℕ → ℕ → Surveyed
@@ -78,7 +78,7 @@ module _ {t : Template} {codes : Codes} {place : ℕ} {holder walk : Walk} {n : 
           right =
               w .right ∙ any-later (wrongGroup t codes) (listed (t .groups) (λ k. k)) 0 (walk .group) among (here false (neither t codes (walk .group) (omega arith) (omega arith)))
               ∙ ap (wrongFrom t codes) (sym (e .group));
-          near = nearest-step t codes place (w .walking) (w .near) eh e;
+          holder-is = holder-step t codes place (w .walking) (w .holder-is) eh e;
         }
 
     -- the last length is none that is too long
@@ -104,4 +104,4 @@ module _ {t : Template} {codes : Codes} {place : ℕ} {holder walk : Walk} {n : 
     walked-short l = decides surveyed.Refused Short (groupRefusals start t octets codes) _ (omega (arith, tests, none, end-is))
 
     pub walked-at : p .end .0 ≤ octets → surveyed.At p (walk .points) holder ≡ answer start octets
-    walked-at l = rw (places-are, w .walking .count, w .near, done) (clears surveyed.Refused (groupRefusals start t octets codes) _ (omega (arith, tests, none, end-is)))
+    walked-at l = rw (places-are, w .walking .count, w .holder-is, done) (clears surveyed.Refused (groupRefusals start t octets codes) _ (omega (arith, tests, none, end-is)))

@@ -8,7 +8,7 @@ use Rattle.format.specs.Unpacking.{Codes, codesOf, pointsBefore, bitsBefore, pl
 use Rattle.format.specs.declared.Template.{Template}
 use Rattle.format.specs.declared.Located.{Located}
 use Rattle.format.specs.declared.Located.the-variants as located
-use Rattle.groups.specs.Walk.{nearestOf}
+use Rattle.groups.specs.Walk.{holderWalk}
 use Rattle.group_fields.specs.declared.Surveyed.{Surveyed}
 use Rattle.group_fields.specs.declared.Surveyed.the-variants as surveyed
 
@@ -16,7 +16,7 @@ use Rattle.group_fields.specs.declared.Surveyed.the-variants as surveyed
 abbrev pub surveyedBy : List Row → ℕ → Template → Codes → ℕ → Surveyed
 surveyedBy rows start t codes place =
     first surveyed.Refused rows
-    (surveyed.At (placesOf start t (bitsBefore t codes (t .groups))) (pointsBefore t codes (t .groups)) (nearestOf t codes place (t .groups)))
+    (surveyed.At (placesOf start t (bitsBefore t codes (t .groups))) (pointsBefore t codes (t .groups)) (holderWalk t codes place (t .groups)))
 
 -- by rows that go by the payload's length and its codes
 abbrev pub surveyedIn : (ℕ → Codes → List Row) → ℕ → Template → List ℕ → ℕ → Surveyed

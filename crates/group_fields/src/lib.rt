@@ -1,5 +1,5 @@
-// Group fields under 5.2 and 5.3: where the parts are, what the groups come to, which of them holds a place of the list, and
-// the first refusal that applies, as far as 7 for the values.
+// Group fields under 5.2 and 5.3: where the parts are, what the groups come to, which of them holds a place of the
+// list, and the first refusal that applies, as far as 7 for the values; then the test of 9.
 ghost use mathlib.Core.Path.{_≡_};
 ghost use mathlib.Core.Bool.{true, false};
 ghost use mathlib.Core.List.{_++_};
@@ -112,7 +112,7 @@ pub fn surveyed_complex(template: Template, payload: &[u8], place: usize) -> Sur
     surveyed_from(template, 0, payload, place)
 }
 
-// Where the parts are, where no place is asked for.
+// Where the parts are, without the group.
 fn located_of(surveyed: Surveyed) -> Located
     ensures { λ r. ⌜ r ≡ locatedOf surveyed ⌝ }
 {
@@ -122,7 +122,7 @@ fn located_of(surveyed: Surveyed) -> Located
     }
 }
 
-// The same, where no place is asked for.
+// `surveyed_complex`, where no place is asked for.
 pub fn located_complex(template: Template, payload: &[u8]) -> Located
     ensures { λ r. ⌜ r ≡ locate52 template (now (payload .entry)) ⌝ }
 {

@@ -12,7 +12,7 @@ use Rattle.laws.specs.Bits.{product}
 use Rattle.laws.specs.Lists.{total-next}
 use Rattle.laws.specs.Points.{holderOf}
 use Rattle.groups.specs.declared.Walk.{Walk}
-use Rattle.groups.specs.Walk.{Walking, walkAt, nearestOf, atFirst, Further}
+use Rattle.groups.specs.Walk.{Walking, walkAt, holderWalk, atFirst, Further}
 
 module _ {t : Template} {codes : Codes} where
   pub walking-start : Walking t codes atFirst
@@ -37,14 +37,14 @@ module _ {t : Template} {codes : Codes} where
 -- ---- the group that holds a place
 
 module _ (t : Template) (codes : Codes) (place : ℕ) where
-  pub nearest-start : atFirst ≡ nearestOf t codes place 0
+  pub holder-start : atFirst ≡ holderWalk t codes place 0
   unfolding holderOf pointsBefore bitsBefore total
-  nearest-start = refl
+  holder-start = refl
 
-  pub nearest-step : {walk next holder nearer : Walk} {width length : ℕ} → Walking t codes walk → holder ≡ nearestOf t codes place (walk .group)
-      → nearer ≡ cond (leb (walk .points) place) walk holder → Further walk width length next → nearer ≡ nearestOf t codes place (next .group)
+  pub holder-step : {walk next holder nearer : Walk} {width length : ℕ} → Walking t codes walk → holder ≡ holderWalk t codes place (walk .group)
+      → nearer ≡ cond (leb (walk .points) place) walk holder → Further walk width length next → nearer ≡ holderWalk t codes place (next .group)
   unfolding holderOf
-  nearest-step {walk} w eh en e =
+  holder-step {walk} w eh en e =
       en ∙ rw (w .count, w .size, eh, e .group, add-one) (by-test (leb (pointsBefore t codes (walk .group)) place) (walk .group) (holderOf t codes place (walk .group)))
     where
       by-test : (b : Bool) (g h : ℕ) → cond b (walkAt t codes g) (walkAt t codes h) ≡ walkAt t codes (cond b g h)

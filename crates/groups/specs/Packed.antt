@@ -10,7 +10,7 @@ use Rattle.format.specs.Unpacking.{Codes, referenceOf, groupWidth, groupLength,
 use Rattle.format.specs.declared.Template.{Template}
 use Rattle.format.specs.declared.DecodedValue.{DecodedValue}
 use Rattle.groups.specs.declared.PackedGroup.{PackedGroup}
-use Rattle.groups.specs.declared.HeldGroup.{HeldGroup}
+use Rattle.groups.specs.declared.HolderGroup.{HolderGroup}
 use Rattle.groups.specs.declared.Walk.{Walk}
 
 -- group g, as the codes say
@@ -18,8 +18,8 @@ abbrev pub codedGroup : Template → Codes → ℕ → PackedGroup
 codedGroup t codes g = record { reference = referenceOf codes g; width = groupWidth t codes g; length = groupLength t codes g }
 
 -- the group that a walk stands at, where the values of all begin at that octet
-abbrev pub heldGroup : Template → Codes → ℕ → Walk → HeldGroup
-heldGroup t codes values walk = record {
+abbrev pub holderGroup : Template → Codes → ℕ → Walk → HolderGroup
+holderGroup t codes values walk = record {
   reference = referenceOf codes (walk .group);
   width = groupWidth t codes (walk .group);
   first = walk .points;

@@ -15,8 +15,8 @@ abbrev pub walkAt : Template → Codes → ℕ → Walk
 walkAt t codes g = record { group = g; points = pointsBefore t codes g; bits = bitsBefore t codes g }
 
 -- of the first n groups it is at the last that begins at the place or before it
-abbrev pub nearestOf : Template → Codes → ℕ → ℕ → Walk
-nearestOf t codes place n = walkAt t codes (holderOf t codes place n)
+abbrev pub holderWalk : Template → Codes → ℕ → ℕ → Walk
+holderWalk t codes place n = walkAt t codes (holderOf t codes place n)
 
 -- `next` is past a group of that width and length
 pub record Further (walk : Walk) (width length : ℕ) (next : Walk) : Type 0 where

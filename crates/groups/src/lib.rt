@@ -10,7 +10,7 @@ ghost use Rattle.format.specs.Refusals.{limit};
 ghost use Rattle.format.specs.Unpacking.{codesOf, referenceOf, groupWidth, groupLength, decoded, pointOf};
 ghost use Rattle.format.specs.declared.DecodedValue.the-variants.{Normal};
 ghost use Rattle.laws.specs.Accepting.{Laid};
-ghost use Rattle.groups.specs.Packed.{codedGroup, heldGroup, Limited, allThere};
+ghost use Rattle.groups.specs.Packed.{codedGroup, holderGroup, Limited, allThere};
 ghost use Rattle.groups.specs.Walk.{Further};
 use format::BitPlace;
 use format::DecodedValue;
@@ -26,7 +26,7 @@ pub struct PackedGroup {
 }
 
 // A group that holds a place of the list: its reference, its width, the place of its first point, and where its values begin.
-pub struct HeldGroup {
+pub struct HolderGroup {
     pub reference: u32,
     pub width: usize,
     pub first: usize,
@@ -129,12 +129,12 @@ pub fn read_group(template: Template, payload: &[u8], places: Places, g: usize) 
 }
 
 // The group that a walk stands at, where it lies.
-pub fn held_group(template: Template, payload: &[u8], places: Places, walk: Walk) -> HeldGroup
+pub fn holder_group(template: Template, payload: &[u8], places: Places, walk: Walk) -> HolderGroup
     requires { ⌜ Laid template places × (walk .group < template .groups) × (walk .bits < 2 ^ 62) ⌝ }
-    ensures { λ r. ⌜ r ≡ heldGroup template (codesOf (places .references .0) template (now (payload .entry))) (places .values .0) walk ⌝ }
+    ensures { λ r. ⌜ r ≡ holderGroup template (codesOf (places .references .0) template (now (payload .entry))) (places .values .0) walk ⌝ }
 {
     let values = BitPlace(places::first_bit(places.values).0 + walk.bits);
-    HeldGroup {
+    HolderGroup {
         reference: reference_of(template, payload, places, walk.group),
         width: width_of(template, payload, places, walk.group),
         first: walk.points,

@@ -116,7 +116,7 @@ abbrev pub Clear : List Row → Type 0
 Clear [] = Unit
 Clear (t gives r ∷ rows) = (t ≡ false) × Clear rows
 
--- nor do rows behind it change what is given
+-- rows behind them do not change what is given
 pub gives-front : (n : ℕ) (rows more : List Row) → Gives n rows → Gives n (rows ++ more)
 gives-front n [] more h = absurd h
 gives-front n (t gives r ∷ rows) more h = (h .0, λ e. gives-front n rows more (h .1 e))

@@ -20,11 +20,11 @@ use Rattle.format.specs.declared.Picked.{Picked}
 use Rattle.format.specs.declared.Picked.the-variants as picked
 use Rattle.laws.specs.Accepting.{Counted}
 use Rattle.laws.specs.First.{Clear, first-through, passed}
-use Rattle.groups.specs.declared.HeldGroup.{HeldGroup}
-use Rattle.point.specs.Holding.{Holding, heldPoint, holder52, held52}
+use Rattle.groups.specs.declared.HolderGroup.{HolderGroup}
+use Rattle.point.specs.Holding.{Readable, heldPoint, holder52, held52}
 use Rattle.point.specs.declared.Held.{Held}
 use Rattle.point.specs.declared.Held.the-variants as held
-use Rattle.point.proofs.Holding.{holding, point-is, passes, below}
+use Rattle.point.proofs.Holding.{readable, point-is, passes, below}
 
 -- the point at the place, whichever group holds it
 abbrev pickedOf : ℕ → Template → List ℕ → Held → Picked
@@ -33,7 +33,7 @@ pickedOf place t payload (held.Refused r) = picked.Refused r
 
 module _ (place : ℕ) (t : Template) (declared : ℕ) (payload : List ℕ) {y : Held} (ey : y ≡ held52 place t declared payload) where
   abbrev rows : List Row
-  rows = pointRefusals place t declared (length payload) (codesOf 0 t payload)
+  rows = pointRefusals place t declared payload
 
   picked-is : pickedOf place t payload y ≡ point52 place t declared payload
   unfolding point52 saidBy
@@ -43,7 +43,7 @@ module _ (place : ℕ) (t : Template) (declared : ℕ) (payload : List ℕ) {y :
   pub point-refused : {r : Refusal} → y ≡ held.Refused r → picked.Refused r ≡ point52 place t declared payload
   point-refused e = rw e at picked-is
 
-  module _ {h : HeldGroup} (e : y ≡ held.Group h) {n : ℕ} (en : (n ≡ place) × (n < 2 ^ 32)) where
+  module _ {h : HolderGroup} (e : y ≡ held.Group h) {n : ℕ} (en : (n ≡ place) × (n < 2 ^ 32)) where
     accepted : Clear rows × (held.Group h ≡ held.Group (holder52 place t payload))
     accepted = passed held.Refused rows (held.Group (holder52 place t payload)) (sym e ∙ ey) (λ r z. (let d : _≡_ {A = ℕ} 0 1 = cc in omega arith))
 
@@ -56,9 +56,9 @@ module _ (place : ℕ) (t : Template) (declared : ℕ) (payload : List ℕ) {y :
     low : place < declared
     low = below place t declared payload (accepted .0)
 
-    pub point-asked : (t .width ≤ 31) × Holding h n
+    pub point-asked : (t .width ≤ 31) × Readable h n
     point-asked =
-        rw (same, en .0) (counts .passing .width, holding place t declared payload (counts .right) (counts .count) (counts .few) low (counts .passing))
+        rw (same, en .0) (counts .passing .width, readable place t declared payload (counts .right) (counts .count) (counts .few) low (counts .passing))
 
     pub point-done : {point : DecodedValue} → point ≡ heldPoint t h payload n → picked.Point point ≡ point52 place t declared payload
     point-done ep =

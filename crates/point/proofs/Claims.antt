@@ -27,7 +27,7 @@ use Rattle.laws.specs.Accepting.{counted}
 use Rattle.laws.specs.First.{Clear, Giving, outcome, gives-up-to, decides, clears, first-ext, first-joined, tests}
 use Rattle.laws.specs.Points.{size-point, length-points, holderOf, counted-same, point-own}
 use Rattle.laws.specs.Stores.{flat-cut}
-use Rattle.point.specs.Claims.{octetsAt, AsUnpacked, PlaceOfUnpacking, Own, Agree, NumberThree}
+use Rattle.point.specs.Claims.{octetsAt, AsUnpacked, PlaceOfUnpacking, BySection5, Own, Agree, NumberThree}
 use Rattle.point.proofs.Holding.{holds, passes, below}
 
 -- ---- an answer is a point or a refusal, and not both
@@ -93,8 +93,8 @@ module _ (place : ℕ) (t : Template) (declared : ℕ) (payload lent : List ℕ)
 
   -- none refuses unpacking
   module _ (clear : Clear rows) where
-    point-placed : point52 place t declared payload ≡ placed
-    point-placed = point-first ∙ sym (clears picked.Refused rows placed clear)
+    point-accepted : point52 place t declared payload ≡ placed
+    point-accepted = point-first ∙ sym (clears picked.Refused rows placed clear)
 
     unpack-done : unpack52 t declared payload lent ≡ left (unpacked.Points declared) (flatMap pointOctets points over lent)
     unpack-done = unpack-first ∙ sym (clears (λ r. left (unpacked.Refused r) lent) rows _ clear)
@@ -111,11 +111,11 @@ module _ (place : ℕ) (t : Template) (declared : ℕ) (payload lent : List ℕ)
 
     no-place : declared ≤ place → point52 place t declared payload ≡ picked.Refused Place
     unfolding first
-    no-place l = point-placed ∙ rw (le-leb declared place l)
+    no-place l = point-accepted ∙ rw (le-leb declared place l)
 
     a-place : place < declared → point52 place t declared payload ≡ picked.Point (getD points place Missing1)
     unfolding first
-    a-place l = point-placed ∙ rw (lt-leb declared place l)
+    a-place l = point-accepted ∙ rw (lt-leb declared place l)
 
     unpacks : AsUnpacked place t declared payload lent
     unpacks = by-test (leb declared place) refl
@@ -148,6 +148,9 @@ place-of-unpacking : PlaceOfUnpacking
 place-of-unpacking place t declared payload lent room =
     ⊎-elim (unpacks place t declared payload lent room) (both-refused place t declared payload lent room) (outcome (counted52 t declared (length payload) (codesOf 0 t payload)))
 
+by-section5 : BySection5
+by-section5 place section5 payload lent = record { one-point = λ declared t e. rw e; whole-map = λ declared t e. rw e; refused = λ r e. (rw e, rw e) }
+
 -- ---- what it depends on
 
 module _ (place : ℕ) (t : Template) (declared : ℕ) (a b : List ℕ) (agree : Agree place t declared a b) where
@@ -155,7 +158,7 @@ module _ (place : ℕ) (t : Template) (declared : ℕ) (a b : List ℕ) (agree :
   codesA = codesOf 0 t a
 
   abbrev rowsIn : List ℕ → List Row
-  rowsIn payload = pointRefusals place t declared (length payload) (codesOf 0 t payload)
+  rowsIn payload = pointRefusals place t declared payload
 
   rows-same : rowsIn a ≡ rowsIn b
   rows-same =
@@ -164,10 +167,16 @@ module _ (place : ℕ) (t : Template) (declared : ℕ) (a b : List ℕ) (agree :
 
   -- the point that no row refuses
   own : Clear (rowsIn a) → Own place t declared a (holderOf t codesA place (t .groups)) (place - pointsBefore t codesA (holderOf t codesA place (t .groups)))
+  unfolding point52
   own clear =
       let counts = passes place t declared a clear in
       let h = holds place t declared a (counts .right) (counts .count) (counts .few) (below place t declared a clear) in
-      record { answered = clear; among = h .among; inside = omega (arith, h .begins, h .ends); there = omega (arith, h .begins) }
+      record {
+        answered = record { point = _; is = sym (clears picked.Refused (rowsIn a) _ clear) };
+        among = h .among;
+        inside = omega (arith, h .begins, h .ends);
+        there = omega (arith, h .begins);
+      }
 
   point-same : Clear (rowsIn a) → picked.Point (getD (pointsUpTo t (saidBy 0 t a) (t .groups)) place Missing1) ≡ picked.Point (getD (pointsUpTo t (saidBy 0 t b) (t .groups)) place Missing1)
   point-same clear =
@@ -182,4 +191,4 @@ module _ (place : ℕ) (t : Template) (declared : ℕ) (a b : List ℕ) (agree :
       ∙ ap (λ (rows : List Row). first picked.Refused rows (picked.Point (getD (pointsUpTo t (saidBy 0 t b) (t .groups)) place Missing1))) rows-same
 
 pub number-three : NumberThree
-number-three = (place-of-unpacking, depends)
+number-three = (place-of-unpacking, by-section5, depends)

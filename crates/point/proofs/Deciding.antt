@@ -17,8 +17,8 @@ use Rattle.laws.specs.Accepting.{Laid}
 use Rattle.laws.specs.Small.{NoneWrong}
 use Rattle.laws.specs.First.{Gives, Clear, gives-front, decides, clears, first-joined, first-through, tests}
 use Rattle.groups.specs.declared.Walk.{Walk}
-use Rattle.groups.specs.declared.HeldGroup.{HeldGroup}
-use Rattle.groups.specs.Packed.{heldGroup}
+use Rattle.groups.specs.declared.HolderGroup.{HolderGroup}
+use Rattle.groups.specs.Packed.{holderGroup}
 use Rattle.group_fields.specs.Surveying.{survey52}
 use Rattle.group_fields.proofs.Order.{Walked52, walked-52}
 use Rattle.group_fields.specs.declared.Surveyed.{Surveyed}
@@ -37,7 +37,7 @@ module _ (place : ℕ) (t : Template) (declared : ℕ) (payload : List ℕ) wher
   lastRows points = countRefusals points declared ++ (placeRefusals place declared)
 
   abbrev heldOf : Surveyed → Held
-  heldOf (surveyed.At places points holder) = first held.Refused (lastRows points) (held.Group (heldGroup t codes (places .values .0) holder))
+  heldOf (surveyed.At places points holder) = first held.Refused (lastRows points) (held.Group (holderGroup t codes (places .values .0) holder))
   heldOf (surveyed.Refused r) = held.Refused r
 
   held-rows : heldOf (survey52 t payload place) ≡ held52 place t declared payload
@@ -54,7 +54,7 @@ module _ (place : ℕ) (t : Template) (declared : ℕ) (payload : List ℕ) wher
     held-refused e = rw e at rows-are
 
     module _ {places : Places} {points : ℕ} {holder : Walk} (e : x ≡ surveyed.At places points holder) where
-      rows-left : first held.Refused (lastRows points) (held.Group (heldGroup t codes (places .values .0) holder)) ≡ held52 place t declared payload
+      rows-left : first held.Refused (lastRows points) (held.Group (holderGroup t codes (places .values .0) holder)) ≡ held52 place t declared payload
       rows-left = rw e at rows-are
 
       pub held-other : Gives (refusalNumber Points) (countRefusals points declared) → held.Refused Points ≡ held52 place t declared payload
@@ -75,11 +75,11 @@ module _ (place : ℕ) (t : Template) (declared : ℕ) (payload : List ℕ) wher
               let count : pointsBefore t codes (t .groups) ≡ declared = omega (arith, tests) in
               let few : declared ≤ limit = omega (arith, tests) in (
                 walked .found .laid,
-                rw (walked .nearest, en .0) (holds place t declared payload right count few l .among),
-                rw (walked .nearest, en .0) (omega (arith, bits-few place t declared payload right count few l)),
+                rw (walked .holder-is, en .0) (holds place t declared payload right count few l .among),
+                rw (walked .holder-is, en .0) (omega (arith, bits-few place t declared payload right count few l)),
               )
 
-          pub held-right : {group : HeldGroup} → group ≡ heldGroup t (codesOf (places .references .0) t payload) (places .values .0) holder
+          pub held-right : {group : HolderGroup} → group ≡ holderGroup t (codesOf (places .references .0) t payload) (places .values .0) holder
               → held.Group group ≡ held52 place t declared payload
           held-right eg =
               let below = lt-leb declared place l in

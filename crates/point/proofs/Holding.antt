@@ -15,8 +15,8 @@ use Rattle.laws.specs.Accepting.{Passing, Counted, counted, laid}
 use Rattle.laws.specs.First.{Clear, clear-front, clear-later}
 use Rattle.laws.specs.Points.{points-within, point-placed, point-read, holderOf, Holds, held}
 use Rattle.laws.specs.Small.{NoneWrong, width-low, reference-low, bits-low}
-use Rattle.groups.specs.declared.HeldGroup.{HeldGroup}
-use Rattle.point.specs.Holding.{holder52, Holding, heldPoint}
+use Rattle.groups.specs.declared.HolderGroup.{HolderGroup}
+use Rattle.point.specs.Holding.{holder52, Readable, heldPoint}
 
 module _ (place : ℕ) (t : Template) (declared : ℕ) (payload : List ℕ) where
   abbrev codes : Codes
@@ -25,7 +25,7 @@ module _ (place : ℕ) (t : Template) (declared : ℕ) (payload : List ℕ) wher
   abbrev g : ℕ
   g = holderOf t codes place (t .groups)
 
-  abbrev holder : HeldGroup
+  abbrev holder : HolderGroup
   holder = holder52 place t payload
 
   module _ (right : NoneWrong t codes) (count : pointsBefore t codes (t .groups) ≡ declared) (few : declared ≤ limit) (below : place < declared) where
@@ -42,8 +42,8 @@ module _ (place : ℕ) (t : Template) (declared : ℕ) (payload : List ℕ) wher
     unfolding placesOf
     values-low passing = laid 0 0 {p = placesOf 0 t 0} passing (omega arith) refl .values-low
 
-    pub holding : Passing t → Holding holder place
-    holding passing = record {
+    pub readable : Passing t → Readable holder place
+    readable passing = record {
       reference = reference-low 0 t payload (passing .width) g (holds .among);
       width = width-low t codes right g (holds .among);
       values = omega (arith, bits-few, values-low passing);
@@ -60,7 +60,7 @@ module _ (place : ℕ) (t : Template) (declared : ℕ) (payload : List ℕ) wher
         sym (point-read 0 t payload g k (holds .among) inside) ∙ sym (point-placed t (saidBy 0 t payload) Missing1 (t .groups) g k (holds .among) inside)
         ∙ ap (λ (i : ℕ). getD (pointsUpTo t (saidBy 0 t payload) (t .groups)) i Missing1) at
 
-  module _ (clear : Clear (pointRefusals place t declared (length payload) codes)) where
+  module _ (clear : Clear (pointRefusals place t declared payload)) where
     pub passes : Counted 0 t declared (length payload) codes
     passes = counted (kindRefusals t) 0 t declared (length payload) codes (clear-front (counted52 t declared (length payload) codes) (placeRefusals place declared) clear)
 

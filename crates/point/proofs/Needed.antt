@@ -1,5 +1,5 @@
 -- Each premise of the claims of document 02, No. 3, is needed: the smallest payloads that differ in it alone, and in the answer.
--- Assumes nothing.
+-- Where the first of the two is refused, or its group has width 0, no bits are asked of them. Assumes nothing.
 use mathlib.Core.Path.{_≡_, refl}
 use mathlib.Core.List.{List, [], _∷_}
 use Prim.Native.Nat.{ℕ}
@@ -40,30 +40,24 @@ octets : SameWidths oneReference [] (5 ∷ []) × SameLengths oneReference [] (5
 unfolding listed referenceOf total joined anyOf first bitIn numberOf spanOf widthsAt lengthsAt valuesAt codesOf saidBy groupWidth groupLength pointsBefore bitsBefore wrongGroup decoded pointOf pointAt pointsUpTo placesOf point52
 octets = (refl, refl, refl, refl)
 
--- the width codes: width 0, which has no bits, and width 1
+-- the width codes: width 0, and width 1, for which a bit is lacking
 abbrev oneWidth : Template
 oneWidth = template 0 0 1 0 1 0 0 1 0
 
-widths : SameLength (0x00 ∷ 0x80 ∷ []) (0x80 ∷ 0x80 ∷ []) × SameReferences oneWidth (0x00 ∷ 0x80 ∷ []) (0x80 ∷ 0x80 ∷ [])
-    × SameLengths oneWidth (0x00 ∷ 0x80 ∷ []) (0x80 ∷ 0x80 ∷ [])
-    × (picking 0 oneWidth 1 (0x00 ∷ 0x80 ∷ []) ≡ point (number 0)) × (picking 0 oneWidth 1 (0x80 ∷ 0x80 ∷ []) ≡ point (number 1))
+widths : SameLength (0x00 ∷ []) (0x80 ∷ []) × SameReferences oneWidth (0x00 ∷ []) (0x80 ∷ []) × SameLengths oneWidth (0x00 ∷ []) (0x80 ∷ [])
+    × (picking 0 oneWidth 1 (0x00 ∷ []) ≡ point (number 0)) × (picking 0 oneWidth 1 (0x80 ∷ []) ≡ refused 7 [])
 unfolding listed referenceOf total joined anyOf first bitIn numberOf spanOf widthsAt lengthsAt valuesAt codesOf saidBy groupWidth groupLength pointsBefore bitsBefore wrongGroup decoded pointOf pointAt pointsUpTo placesOf point52
 widths = (refl, refl, refl, refl, refl)
 
--- the length codes but the last: references 0 and 1, lengths 0 and 1 or 1 and 1
+-- the length codes but the last: of three groups with references 0, 1 and 0 one has the point, the first or the second
 abbrev oneLength : Template
-oneLength = template 0 1 2 0 0 0 1 1 1
+oneLength = template 0 1 3 0 0 0 1 0 1
 
-lengths : SameLength (0x40 ∷ 0x00 ∷ []) (0x40 ∷ 0x80 ∷ []) × SameReferences oneLength (0x40 ∷ 0x00 ∷ []) (0x40 ∷ 0x80 ∷ [])
-    × SameWidths oneLength (0x40 ∷ 0x00 ∷ []) (0x40 ∷ 0x80 ∷ [])
-    × (picking 0 oneLength 1 (0x40 ∷ 0x00 ∷ []) ≡ point (number 1)) × (picking 0 oneLength 1 (0x40 ∷ 0x80 ∷ []) ≡ refused 9 [])
+lengths : SameLength (0x40 ∷ 0x80 ∷ []) (0x40 ∷ 0x40 ∷ []) × SameReferences oneLength (0x40 ∷ 0x80 ∷ []) (0x40 ∷ 0x40 ∷ [])
+    × SameWidths oneLength (0x40 ∷ 0x80 ∷ []) (0x40 ∷ 0x40 ∷ [])
+    × (picking 0 oneLength 1 (0x40 ∷ 0x80 ∷ []) ≡ point (number 0)) × (picking 0 oneLength 1 (0x40 ∷ 0x40 ∷ []) ≡ point (number 1))
 unfolding listed referenceOf total joined anyOf first bitIn numberOf spanOf widthsAt lengthsAt valuesAt codesOf saidBy groupWidth groupLength pointsBefore bitsBefore wrongGroup decoded pointOf pointAt pointsUpTo placesOf point52
 lengths = (refl, refl, refl, refl, refl)
-
--- the last is none of them, and does not matter
-last-length : (picking 0 oneLength 1 (0x40 ∷ 0x00 ∷ []) ≡ picking 0 oneLength 1 (0x40 ∷ 0x40 ∷ []))
-unfolding listed referenceOf total joined anyOf first bitIn numberOf spanOf widthsAt lengthsAt valuesAt codesOf saidBy groupWidth groupLength pointsBefore bitsBefore wrongGroup decoded pointOf pointAt pointsUpTo placesOf point52
-last-length = refl
 
 -- the reference of the point's group, of width 0
 abbrev oneBit : Template
@@ -83,3 +77,14 @@ bits : SameLength (0x00 ∷ []) (0x80 ∷ []) × SameReferences oneValue (0x00 �
     × (picking 0 oneValue 1 (0x00 ∷ []) ≡ point (number 0)) × (picking 0 oneValue 1 (0x80 ∷ []) ≡ point (number 1))
 unfolding listed referenceOf total joined anyOf first bitIn numberOf spanOf widthsAt lengthsAt valuesAt codesOf saidBy groupWidth groupLength pointsBefore bitsBefore wrongGroup decoded pointOf pointAt pointsUpTo placesOf point52
 bits = (refl, refl, refl, refl, refl, refl)
+
+-- ---- what is none of them, and does not matter: of 5 6 5 7, whose first point is asked for, the other reference, the other values and
+-- the pads; and a last length code
+
+others : picking 0 (template 0 3 2 0 1 3 0 1 0) 4 (0xBC ∷ 0x80 ∷ 0x40 ∷ []) ≡ picking 0 (template 0 3 2 0 1 3 0 1 0) 4 (0xA3 ∷ 0xBF ∷ 0x3F ∷ [])
+unfolding listed referenceOf total joined anyOf first bitIn numberOf spanOf widthsAt lengthsAt valuesAt codesOf saidBy groupWidth groupLength pointsBefore bitsBefore wrongGroup decoded pointOf pointAt pointsUpTo placesOf point52
+others = refl
+
+last-length : picking 0 oneLength 1 (0x40 ∷ 0x40 ∷ []) ≡ picking 0 oneLength 1 (0x40 ∷ 0x60 ∷ [])
+unfolding listed referenceOf total joined anyOf first bitIn numberOf spanOf widthsAt lengthsAt valuesAt codesOf saidBy groupWidth groupLength pointsBefore bitsBefore wrongGroup decoded pointOf pointAt pointsUpTo placesOf point52
+last-length = refl

@@ -3,7 +3,7 @@
 ghost use mathlib.Core.Path.{_≡_};
 ghost use Prim.Native.Nat.{_≤_};
 ghost use Rattle.format.specs.Point.{point52, pointSection5};
-ghost use Rattle.point.specs.Holding.{held52, Holding, heldPoint};
+ghost use Rattle.point.specs.Holding.{held52, Readable, heldPoint};
 use format::BitPlace;
 use format::DecodedValue;
 use format::Named;
@@ -11,11 +11,11 @@ use format::Picked;
 use format::Refusal;
 use format::Template;
 use group_fields::Surveyed;
-use groups::HeldGroup;
+use groups::HolderGroup;
 
 // The group that holds a place of the list, or why there is none.
 pub enum Held {
-    Group(HeldGroup),
+    Group(HolderGroup),
     Refused(Refusal),
 }
 
@@ -32,14 +32,14 @@ pub fn held_complex(template: Template, declared: u32, payload: &[u8], place: u3
             if declared <= place {
                 return Held::Refused(Refusal::Place);
             }
-            Held::Group(groups::held_group(template, payload, places, holder))
+            Held::Group(groups::holder_group(template, payload, places, holder))
         }
     }
 }
 
 // The point at a place of the list, in the group that holds it.
-fn point_in(template: Template, payload: &[u8], held: HeldGroup, place: usize) -> DecodedValue
-    requires { ⌜ (template .width ≤ 31) × Holding held place ⌝ }
+fn point_in(template: Template, payload: &[u8], held: HolderGroup, place: usize) -> DecodedValue
+    requires { ⌜ (template .width ≤ 31) × Readable held place ⌝ }
     ensures { λ r. ⌜ r ≡ heldPoint template held (now (payload .entry)) place ⌝ }
 {
     let at = BitPlace(held.values.0 + places::times(place - held.first, held.width));

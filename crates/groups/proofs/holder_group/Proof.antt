@@ -1,10 +1,10 @@
--- `groups::held_group` meets its contract. Assumes nothing.
+-- `groups::holder_group` meets its contract. Assumes nothing.
 use borrow.Author.Needs.{needs}
-use Rattle.groups.proofs.held_group.Statement.{statement}
-use Rattle.groups.proofs.held_group.Tie as tie
+use Rattle.groups.proofs.holder_group.Statement.{statement}
+use Rattle.groups.proofs.holder_group.Tie as tie
 
-pub held-group-spec : {M : Type 1} → statement M
-held-group-spec =
+pub holder-group-spec : {M : Type 1} → statement M
+holder-group-spec =
     tie.close
     (tie.spec
     (λ c κs. search needs)
