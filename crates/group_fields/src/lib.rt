@@ -29,8 +29,8 @@ pub struct Bounds {
     pub to: OctetPlace,
 }
 
-// Where the parts of a payload are, how many points its groups come to, and of these the last that begins at a place of the
-// list or before it: the one that holds the place, if it is below that count.
+// Where the parts of a payload are, how many points its groups come to, and the last group that begins at a place of the
+// list or before it: it holds the place, if that is below the count.
 pub enum Surveyed {
     At(Places, usize, Walk),
     Refused(Refusal),

@@ -72,10 +72,14 @@ module _ (t : Template) (said : Said) where
 -- ---- the group that holds a place
 
 module _ (t : Template) (codes : Codes) (place : ℕ) where
-  -- of the first n groups the last that begins at the place or before it
+  -- a group begins at the place or before it
+  abbrev begun : ℕ → Bool
+  begun g = leb (pointsBefore t codes g) place
+
+  -- the last of the first n groups that does
   unfoldable pub holderOf : ℕ → ℕ
   holderOf zero = 0
-  holderOf (suc n) = cond (leb (pointsBefore t codes n) place) n (holderOf n)
+  holderOf (suc n) = cond (begun n) n (holderOf n)
 
   -- it holds the place, and so is none without points
   pub record Holds (n g : ℕ) : Type 0 where
@@ -87,12 +91,12 @@ module _ (t : Template) (codes : Codes) (place : ℕ) where
   pub held : (n : ℕ) → place < pointsBefore t codes n → Holds n (holderOf n)
   unfolding holderOf pointsBefore total
   held zero l = absurd (omega arith)
-  held (suc n) l = by-test (leb (total n (groupLength t codes)) place) refl (held n)
+  held (suc n) l = by-test (begun n) refl (held n)
     where
-      by-test : (b : Bool) → leb (total n (groupLength t codes)) place ≡ b → (place < total n (groupLength t codes) → Holds n (holderOf n)) → Holds (suc n) (cond b n (holderOf n))
-      by-test true e earlier = record { among = omega arith; begins = leb-true (total n (groupLength t codes)) place e; ends = l }
+      by-test : (b : Bool) → begun n ≡ b → (place < total n (groupLength t codes) → Holds n (holderOf n)) → Holds (suc n) (cond b n (holderOf n))
+      by-test true e earlier = record { among = omega arith; begins = omega (arith, leb-true); ends = l }
       by-test false e earlier =
-          let h = earlier (leb-false (total n (groupLength t codes)) place e) in
+          let h = earlier (omega (arith, leb-false)) in
           record { among = omega (arith, h .among); begins = h .begins; ends = h .ends }
 
 -- ---- its own bits

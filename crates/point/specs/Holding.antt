@@ -1,7 +1,6 @@
 -- The group that holds a place of the list. Assumes nothing.
 use Prim.Native.Nat.{ℕ, _+_, _-_, _*_, _^_, _≤_, _<_}
 use mathlib.Core.List.{List}
-use lib.ListN.{length}
 use Rattle.format.specs.Bits.{numberAt}
 use Rattle.format.specs.Refusals.{first, limit}
 use Rattle.format.specs.Template.{valuesAt}
