@@ -3,13 +3,13 @@ use Prim.Native.Nat.{ℕ, _+_}
 use mathlib.Core.Path.{_≡_, refl}
 use mathlib.Core.List.{List, [], _∷_, flatMap}
 use Rattle.format.specs.Seen.{Case, _shows_, AllHold, lent, refused, numbers, spanned, number, points, point, levels, group, packs, reading, template, unpacking, restoring, readingSection5, writingSection5, unpackingSection5, picking, pickingSection5, unrolling, packing}
-use Rattle.format.specs.Lists.{listed, total, joined, anyOf, greatest, least}
+use Rattle.format.specs.Lists.{listed, total, joined, anyOf, firstWhere, greatest, least}
 use Rattle.format.specs.Refusals.{first}
 use Rattle.format.specs.Bits.{bitIn, numberOf, spanOf, readField, writeField}
 use Rattle.format.specs.Template.{widthsAt, lengthsAt, valuesAt}
 use Rattle.format.specs.Unpacking.{codesOf, referenceOf, saidBy, groupWidth, groupLength, pointsBefore, bitsBefore, wrongGroup, decoded, pointOf, pointAt, pointsUpTo, placesOf, unpack52}
 use Rattle.format.specs.Differences.{descriptorsOf, raised, expected, restored, beyond, points53, left53, unpack53}
-use Rattle.format.specs.RunLength.{levelsOf, repeatsFirst, levelsIn, runLength}
+use Rattle.format.specs.RunLength.{levelsOf, levelsUpTo, onlyPadding, codesRead, repeatsFirst, runLengthUpTo}
 use Rattle.format.specs.Grouping.{digitsIn, bits, widthOf, endsBefore, groupsFrom, groupsOf, recordsFrom}
 use Rattle.format.specs.Packing.{summarySize, widthCoding, gcdIn, gcd, gcdFrom, divisorUpTo, incrementOf, butLast, lengthCoding, templateOf, lengthCodes, valueString, payloadOf, packingOf, packBy}
 use Rattle.format.specs.Section5.{table, sectionSize, fieldCount, laid, at, wrongHead, readSection5, writeSection5, namedBy}
@@ -69,9 +69,7 @@ cases =
     shows points (number 10 ∷ number 12 ∷ number 15 ∷ number 18 ∷ [])
     ∷ unrolling 4 9 10 (0x3C ∷ 0xB5 ∷ []) shows levels (3 ∷ 3 ∷ 3 ∷ 3 ∷ 3 ∷ 3 ∷ 3 ∷ 3 ∷ 3 ∷ 5 ∷ [])
     ∷ unrolling 4 9 9 (0x3C ∷ 0xB5 ∷ []) shows refused 9 (lent 18 ∷ [])
-    -- the others, but for the list of 325 numbers: its length coding stands below
-    ∷ unrolling 4 9 5 (0x3C ∷ 0x50 ∷ []) shows levels (3 ∷ 3 ∷ 3 ∷ 5 ∷ 0 ∷ [])
-    ∷ unrolling 4 9 4 (0x3C ∷ 0x50 ∷ []) shows refused 9 (lent 8 ∷ [])
+    -- the others, but for the list of 325 numbers, whose length coding stands below, and 3C 50, which is document 02's
     ∷ unpacking (template 0 31 1 1 0 0 0 1 0) 1 (0xFF ∷ 0xFF ∷ 0xFF ∷ 0xFE ∷ 0x80 ∷ []) shows points (number 2147483648 ∷ [])
     ∷ unpacking (template 0 32 1 1 0 0 0 1 0) 1 (0xFF ∷ 0xFF ∷ 0xFF ∷ 0xFE ∷ 0x80 ∷ []) shows refused 5 (lent 9 ∷ [])
     ∷ unpacking (template 0 0 1 31 0 0 0 1 0) 1 (0xFF ∷ 0xFF ∷ 0xFF ∷ 0xFE ∷ []) shows points (number 2147483647 ∷ [])
@@ -98,10 +96,14 @@ cases =
     ∷ picking 4 (template 0 3 2 0 1 3 0 1 0) 4 (0xBC ∷ 0x80 ∷ 0x40 ∷ []) shows refused 15 []
     ∷ pickingSection5 2 octets52 (0xBC ∷ 0x80 ∷ 0x40 ∷ []) shows point (number 5)
     ∷ pickingSection5 3 octets52 (0xBC ∷ 0x80 ∷ 0x40 ∷ []) shows point Missing1
+    -- document 02, No. 4, which amends document 01's case of 3C 50: "with 4 declared is now accepted as 3 3 3 5; with 5 it still
+    -- gives 3 3 3 5 0"
+    ∷ unrolling 4 9 4 (0x3C ∷ 0x50 ∷ []) shows levels (3 ∷ 3 ∷ 3 ∷ 5 ∷ [])
+    ∷ unrolling 4 9 5 (0x3C ∷ 0x50 ∷ []) shows levels (3 ∷ 3 ∷ 3 ∷ 5 ∷ 0 ∷ [])
     ∷ []
 
 pub all-hold : AllHold cases
-unfolding listed referenceOf total joined anyOf greatest least flatMap first bitIn numberOf spanOf readField writeField widthsAt lengthsAt valuesAt codesOf saidBy groupWidth groupLength pointsBefore bitsBefore wrongGroup decoded pointOf pointAt pointsUpTo placesOf unpack52 descriptorsOf raised expected restored beyond points53 left53 unpack53 levelsOf repeatsFirst levelsIn runLength digitsIn bits widthOf endsBefore groupsFrom groupsOf recordsFrom widthCoding gcdIn gcd gcdFrom divisorUpTo incrementOf butLast lengthCoding templateOf lengthCodes valueString payloadOf packingOf packBy table sectionSize fieldCount laid at wrongHead readSection5 writeSection5 namedBy point52
+unfolding listed referenceOf total joined anyOf firstWhere greatest least flatMap first bitIn numberOf spanOf readField writeField widthsAt lengthsAt valuesAt codesOf saidBy groupWidth groupLength pointsBefore bitsBefore wrongGroup decoded pointOf pointAt pointsUpTo placesOf unpack52 descriptorsOf raised expected restored beyond points53 left53 unpack53 levelsOf levelsUpTo onlyPadding codesRead repeatsFirst runLengthUpTo digitsIn bits widthOf endsBefore groupsFrom groupsOf recordsFrom widthCoding gcdIn gcd gcdFrom divisorUpTo incrementOf butLast lengthCoding templateOf lengthCodes valueString payloadOf packingOf packBy table sectionSize fieldCount laid at wrongHead readSection5 writeSection5 namedBy point52
 all-hold = refl
 
 -- document 02, No. 1: where Section 5 has each number that unpacking takes

@@ -1,6 +1,6 @@
 -- Words for lists that the other pages use. Assumes nothing.
 use Prim.Native.Nat.{ℕ, zero, suc, _+_, _/_, max, min}
-use mathlib.Core.Bool.{Bool, false, _||_}
+use mathlib.Core.Bool.{Bool, false, cond, _||_}
 use mathlib.Core.List.{List, [], _∷_, _++_}
 use lib.ListN.{length, drop}
 
@@ -23,6 +23,11 @@ joined (suc n) f = joined n f ++ f n
 unfoldable pub anyOf : {A : Type 0} → (A → Bool) → List A → Bool
 anyOf f [] = false
 anyOf f (x ∷ xs) = f x || anyOf f xs
+
+-- the first of 0, 1, .., n - 1 of which f holds; n where it holds of none
+unfoldable pub firstWhere : ℕ → (ℕ → Bool) → ℕ
+firstWhere zero f = 0
+firstWhere (suc n) f = cond (f 0) 0 (suc (firstWhere n (λ i. f (suc i))))
 
 -- the greatest and the least of some numbers; 0 of none
 unfoldable pub greatest : List ℕ → ℕ

@@ -1,20 +1,24 @@
--- Document 01, "Run-length, template 7.200". Assumes nothing.
+-- Document 01, "Run-length, template 7.200", and document 02, No. 4, which amends where reading ends. Assumes nothing.
 use Prim.Native.Nat.{ℕ, _-_, _*_, _/_, _^_}
-use mathlib.Core.Bool.{Bool, false, cond}
+use mathlib.Core.Bool.{Bool, false, cond, _&&_}
 use mathlib.Core.List.{List, [], _∷_, _++_, flatMap}
 use lib.Dec.{eqb, ltb}
 use lib.ListN.{length, replicate}
-use Rattle.format.specs.Lists.{_over_}
-use Rattle.format.specs.Bits.{fieldOf}
+use Rattle.format.specs.Lists.{firstWhere, _over_}
+use Rattle.format.specs.Bits.{numberAt, fieldOf}
 use Rattle.format.specs.Layout.{levelSize, levelOctets}
 use Rattle.format.specs.Refusals.{Row, _gives_, first, countRefusals, roomRefusals, Left, left}
 use Rattle.format.specs.declared.Refusal.the-variants.{Width, Repeat}
 use Rattle.format.specs.declared.Unrolled.{Unrolled}
 use Rattle.format.specs.declared.Unrolled.the-variants as unrolled
 
--- "All whole codes in the payload are read; fewer than b bits at the end are ignored."
-abbrev pub codesIn : ℕ → List ℕ → List ℕ
-codesIn b payload = fieldOf payload 0 b (length payload * 8 / b)
+-- "All whole codes in the payload are read; fewer than b bits at the end are ignored.": how many whole ones there are
+abbrev pub wholeCodes : ℕ → List ℕ → ℕ
+wholeCodes b payload = length payload * 8 / b
+
+-- the first n codes
+abbrev pub codesUpTo : ℕ → List ℕ → ℕ → List ℕ
+codesUpTo b payload n = fieldOf payload 0 b n
 
 -- "With b bits and greatest level M, codes 0 to M are levels; the base is 2^b − 1 − M."
 abbrev pub baseOf : ℕ → ℕ → ℕ
@@ -29,28 +33,47 @@ levelsOf M base level weight (code ∷ codes) =
     (replicate ((code - M - 1) * weight) level ++ levelsOf M base level (weight * base) codes)
     (code ∷ levelsOf M base code 1 codes)
 
+-- the levels that the first n codes mean; before the first level there is none to repeat
+unfoldable pub levelsUpTo : ℕ → ℕ → List ℕ → ℕ → List ℕ
+levelsUpTo b M payload n = levelsOf M (baseOf b M) 0 1 (codesUpTo b payload n)
+
+-- Document 02, No. 4: "once the declared count is reached, reading stops before any code where fewer than 8 bits are left, all
+-- zero; else it goes on"
+-- "fewer than 8 bits are left, all zero": from bit p on
+unfoldable pub onlyPadding : List ℕ → ℕ → Bool
+onlyPadding payload p =
+    let bitsLeft = length payload * 8 - p in
+    ltb bitsLeft 8 && eqb (numberAt payload p bitsLeft) 0
+
+-- "once the declared count is reached, reading stops before" code n
+abbrev pub stopsBefore : ℕ → ℕ → ℕ → List ℕ → ℕ → Bool
+stopsBefore b M declared payload n = eqb (length (levelsUpTo b M payload n)) declared && onlyPadding payload (n * b)
+
+-- "else it goes on": as many codes are read as stand before the first such one, or all whole ones
+unfoldable pub codesRead : ℕ → ℕ → ℕ → List ℕ → ℕ
+codesRead b M declared payload = firstWhere (wholeCodes b payload) (stopsBefore b M declared payload)
+
 -- "the first run-length code is a repeat"
 unfoldable pub repeatsFirst : ℕ → List ℕ → Bool
 repeatsFirst M [] = false
 repeatsFirst M (code ∷ codes) = ltb M code
 
--- all levels of a payload; before the first level there is none to repeat
-unfoldable pub levelsIn : ℕ → ℕ → List ℕ → List ℕ
-levelsIn b M payload = levelsOf M (baseOf b M) 0 1 (codesIn b payload)
-
--- "Run-length: 5, 11, 9, 10."
+-- "Run-length: 5, 11, 9, 10.": where the first n codes are read
 -- 5: "run-length b not 1 to 15 or M above 2^b − 1"
-abbrev pub runLengthRefusals : ℕ → ℕ → ℕ → List ℕ → List ℕ → List Row
-runLengthRefusals b M declared payload lent =
+abbrev pub runLengthRefusals : ℕ → ℕ → ℕ → List ℕ → ℕ → List ℕ → List Row
+runLengthRefusals b M declared payload n lent =
     (eqb b 0 gives Width
     ∷ ltb 15 b gives Width
     ∷ ltb (2 ^ b - 1) M gives Width
-    ∷ repeatsFirst M (codesIn b payload) gives Repeat
+    ∷ repeatsFirst M (codesUpTo b payload (wholeCodes b payload)) gives Repeat
     ∷ [])
-    ++ countRefusals (length (levelsIn b M payload)) declared
+    ++ countRefusals (length (levelsUpTo b M payload n)) declared
     ++ roomRefusals levelSize lent declared
 
-unfoldable pub runLength : ℕ → ℕ → ℕ → List ℕ → List ℕ → Left Unrolled
-runLength b M declared payload lent =
-    first (λ r. left (unrolled.Refused r) lent) (runLengthRefusals b M declared payload lent)
-    (left (unrolled.Levels declared) (flatMap levelOctets (levelsIn b M payload) over lent))
+unfoldable pub runLengthUpTo : ℕ → ℕ → ℕ → List ℕ → ℕ → List ℕ → Left Unrolled
+runLengthUpTo b M declared payload n lent =
+    first (λ r. left (unrolled.Refused r) lent) (runLengthRefusals b M declared payload n lent)
+    (left (unrolled.Levels declared) (flatMap levelOctets (levelsUpTo b M payload n) over lent))
+
+abbrev pub runLength : ℕ → ℕ → ℕ → List ℕ → List ℕ → Left Unrolled
+runLength b M declared payload lent = runLengthUpTo b M declared payload (codesRead b M declared payload) lent

@@ -7,13 +7,13 @@ use lib.Dec.{eqb, ltb}
 use lib.ListN.{replicate, set, take, length-replicate}
 use lib.IntN.{pos, negsuc, negℤ}
 use Rattle.format.specs.Seen.{Case, _shows_, AllHold, lent, refused, answered, numbers, spanned, number, points, point, levels, group, packs, readingIn, writing, template, unpacks, unpackingIn, unpacking, restoringIn, restoring, readingSection5, writingSection5, unpackingSection5, picking, pickingSection5, locates, unrollingIn, unrolling, grouping, kindNumbers, packingIn, packing}
-use Rattle.format.specs.Lists.{listed, total, joined, anyOf, greatest, least}
+use Rattle.format.specs.Lists.{listed, total, joined, anyOf, firstWhere, greatest, least}
 use Rattle.format.specs.Refusals.{_gives_, first}
 use Rattle.format.specs.Bits.{bitIn, numberOf, spanOf, readField, writeField}
 use Rattle.format.specs.Template.{templateBy, widthsAt, lengthsAt, valuesAt}
 use Rattle.format.specs.Unpacking.{codesOf, referenceOf, saidBy, groupWidth, groupLength, pointsBefore, bitsBefore, wrongGroup, decoded, pointOf, pointAt, pointsUpTo, placesOf, partOf, locate52, unpack52}
 use Rattle.format.specs.Differences.{descriptorsOf, raised, expected, restored, beyond, points53, locate53, left53, unpack53}
-use Rattle.format.specs.RunLength.{levelsOf, repeatsFirst, levelsIn, runLength}
+use Rattle.format.specs.RunLength.{levelsOf, levelsUpTo, onlyPadding, codesRead, repeatsFirst, runLengthUpTo}
 use Rattle.format.specs.Grouping.{digitsIn, bits, widthOf, endsBefore, groupsFrom, groupsOf, recordsFrom, numberRefusals, groupNumbersOf}
 use Rattle.format.specs.Packing.{summarySize, widthCoding, gcdIn, gcd, gcdFrom, divisorUpTo, incrementOf, butLast, lengthCoding, templateOf, lengthCodes, valueString, payloadOf, packingOf, packBy}
 use Rattle.format.specs.Section5.{table, sectionSize, fieldCount, laid, at, wrongHead, readSection5, writeSection5, namedBy}
@@ -174,7 +174,6 @@ sentences =
     ∷ answered (inFours (16909060 ∷ []) ++ levelOctets 258) [] shows answered (1 ∷ 2 ∷ 3 ∷ 4 ∷ 1 ∷ 2 ∷ []) []
     -- run-length: no repeat codes; a base of one; "fewer than b bits at the end are ignored"
     ∷ unrolling 4 15 2 (0x3F ∷ []) shows levels (3 ∷ 15 ∷ [])
-    ∷ unrolling 4 14 2 (0x3F ∷ 0xE0 ∷ []) shows refused 9 (lent 4 ∷ [])
     ∷ unrolling 4 14 3 (0x3F ∷ 0xE0 ∷ []) shows levels (3 ∷ 14 ∷ 0 ∷ [])
     ∷ unrolling 3 7 2 (0x53 ∷ []) shows levels (2 ∷ 4 ∷ [])
     ∷ unrolling 9 3 0 (0xFF ∷ []) shows levels []
@@ -241,10 +240,35 @@ sentences =
     ∷ picking 1 (template 0 8 5 0 0 0 1 0 1) 2 (5 ∷ 6 ∷ 7 ∷ 8 ∷ 9 ∷ 0x50 ∷ []) shows point (number 8)
     -- a map of no points has no place
     ∷ picking 0 (template 0 8 1 0 0 0 0 0 0) 0 (5 ∷ []) shows refused 15 []
+    -- document 02, No. 4: "once the declared count is reached": one less, and one more than there is
+    ∷ unrolling 4 9 3 (0x3C ∷ 0x50 ∷ []) shows refused 9 (lent 6 ∷ [])
+    ∷ unrolling 4 9 6 (0x3C ∷ 0x50 ∷ []) shows refused 9 (lent 12 ∷ [])
+    -- "before any code": one payload for three counts; behind a repeat code that adds no point
+    ∷ unrolling 3 7 2 (0xFF ∷ 0x80 ∷ []) shows refused 9 (lent 4 ∷ [])
+    ∷ unrolling 3 7 3 (0xFF ∷ 0x80 ∷ []) shows levels (7 ∷ 7 ∷ 7 ∷ [])
+    ∷ unrolling 3 7 4 (0xFF ∷ 0x80 ∷ []) shows levels (7 ∷ 7 ∷ 7 ∷ 0 ∷ [])
+    ∷ unrolling 3 7 5 (0xFF ∷ 0x80 ∷ []) shows levels (7 ∷ 7 ∷ 7 ∷ 0 ∷ 0 ∷ [])
+    ∷ unrolling 4 14 2 (0x3F ∷ 0xE0 ∷ []) shows levels (3 ∷ 14 ∷ [])
+    ∷ unrolling 2 1 1 (0x60 ∷ []) shows levels (1 ∷ [])
+    -- "fewer than 8 bits": with eight it goes on, and so from b 8 on
+    ∷ unrolling 4 9 2 (0x35 ∷ 0x00 ∷ []) shows refused 9 (lent 4 ∷ [])
+    ∷ unrolling 4 9 3 (0x35 ∷ 0x00 ∷ []) shows levels (3 ∷ 5 ∷ 0 ∷ [])
+    ∷ unrolling 1 1 1 (0x80 ∷ []) shows levels (1 ∷ [])
+    ∷ unrolling 1 1 0 (0x00 ∷ []) shows refused 9 (lent 0 ∷ [])
+    ∷ unrolling 8 255 1 (0x05 ∷ 0x00 ∷ []) shows refused 9 (lent 2 ∷ [])
+    -- "all zero": a tail short of a code too
+    ∷ unrolling 3 7 1 (0x40 ∷ []) shows levels (2 ∷ [])
+    ∷ unrolling 3 7 1 (0x41 ∷ []) shows refused 9 (lent 2 ∷ [])
+    ∷ unrolling 3 7 2 (0x41 ∷ []) shows levels (2 ∷ 0 ∷ [])
+    -- the order of refusals before padding
+    ∷ unrollingIn 4 16 1 (0xC0 ∷ []) 1 shows refused 5 (lent 1 ∷ [])
+    ∷ unrollingIn 4 9 1 (0xC0 ∷ []) 1 shows refused 11 (lent 1 ∷ [])
+    ∷ unrollingIn 4 9 1 (0x30 ∷ []) 1 shows refused 10 (lent 1 ∷ [])
+    ∷ unrollingIn 4 9 1 (0x30 ∷ []) 2 shows levels (3 ∷ [])
     ∷ []
 
 pub all-hold : AllHold sentences
-unfolding listed referenceOf total joined anyOf greatest least flatMap first bitIn numberOf spanOf readField writeField widthsAt lengthsAt valuesAt codesOf saidBy groupWidth groupLength pointsBefore bitsBefore wrongGroup decoded pointOf pointAt pointsUpTo placesOf locate52 unpack52 descriptorsOf raised expected restored beyond points53 locate53 left53 unpack53 levelsOf repeatsFirst levelsIn runLength digitsIn bits widthOf endsBefore groupsFrom groupsOf recordsFrom groupNumbersOf widthCoding gcdIn gcd gcdFrom divisorUpTo incrementOf butLast lengthCoding templateOf lengthCodes valueString payloadOf packingOf packBy table sectionSize fieldCount laid at wrongHead readSection5 writeSection5 namedBy point52
+unfolding listed referenceOf total joined anyOf firstWhere greatest least flatMap first bitIn numberOf spanOf readField writeField widthsAt lengthsAt valuesAt codesOf saidBy groupWidth groupLength pointsBefore bitsBefore wrongGroup decoded pointOf pointAt pointsUpTo placesOf locate52 unpack52 descriptorsOf raised expected restored beyond points53 locate53 left53 unpack53 levelsOf levelsUpTo onlyPadding codesRead repeatsFirst runLengthUpTo digitsIn bits widthOf endsBefore groupsFrom groupsOf recordsFrom groupNumbersOf widthCoding gcdIn gcd gcdFrom divisorUpTo incrementOf butLast lengthCoding templateOf lengthCodes valueString payloadOf packingOf packBy table sectionSize fieldCount laid at wrongHead readSection5 writeSection5 namedBy point52
 all-hold = refl
 
 -- 13: "above 4,194,304 numbers" is too long a list to compute. The rows that n zeros meet with lookahead 1, whatever n is:

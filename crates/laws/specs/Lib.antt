@@ -13,6 +13,7 @@ pub mod Fields
 pub mod Stores
 pub mod Signed
 pub mod Points
+pub mod RunLength
 pub mod Small
 pub mod Accepting
 pub mod Groups

@@ -1,6 +1,6 @@
 -- The laws of the words for lists. Assumes nothing.
 use mathlib.Core.Path.{_≡_, refl, sym, ap, ap₂, _∙_}
-use mathlib.Core.Bool.{Bool, true, false, _||_, or-true, false≢true}
+use mathlib.Core.Bool.{Bool, true, false, cond, _||_, or-true, false≢true}
 use mathlib.Core.List.{List, [], _∷_, _++_, append-assoc, append-nil, map}
 use Prim.Native.Nat.{ℕ, zero, suc, _+_, _-_, _≤_, _<_}
 use native.Mathlib.Nat.{not-suc-le-zero, add-zero, add-suc, zero-add, suc-add, sub-zero, zero-sub}
@@ -8,7 +8,7 @@ use native.Mathlib.Numerals.{add-one}
 use native.Mathlib.Omega.{arith}
 use lib.ListN.{length, replicate, take, drop, set, getD, length-append, length-drop, drop-of-length-le}
 use lib.Seq.{slice, take-nil, drop-cons, drop-at, set-at, append-snoc}
-use Rattle.format.specs.Lists.{listed, total, joined, anyOf, _over_}
+use Rattle.format.specs.Lists.{listed, total, joined, anyOf, firstWhere, _over_}
 
 -- ---- listed
 
@@ -193,6 +193,35 @@ module _ {A : Type 0} where
   joined-first (suc n) f = ap (λ (l : List A). l ++ f (suc n)) (joined-first n f) ∙ append-assoc (f 0) (joined n (λ i. f (suc i))) (f (suc n))
 
 -- ---- over what is over
+
+-- ---- the first number of which f holds
+
+pub where-up-to : (n : ℕ) (f : ℕ → Bool) → firstWhere n f ≤ n
+unfolding firstWhere
+where-up-to zero f = omega arith
+where-up-to (suc n) f = by-test (f 0) (where-up-to n (λ i. f (suc i)))
+  where
+    by-test : (t : Bool) {m : ℕ} → m ≤ n → cond t 0 (suc m) ≤ suc n
+    by-test true l = omega arith
+    by-test false l = omega arith
+
+-- where there is one, it holds of it
+pub where-holds : (n : ℕ) (f : ℕ → Bool) → firstWhere n f < n → f (firstWhere n f) ≡ true
+unfolding firstWhere
+where-holds zero f l = absurd (omega arith)
+where-holds (suc n) f l = by-test (f 0) refl (where-holds n (λ i. f (suc i))) l
+  where
+    by-test : (t : Bool) → f 0 ≡ t → {m : ℕ} → (m < n → f (suc m) ≡ true) → cond t 0 (suc m) < suc n → f (cond t 0 (suc m)) ≡ true
+    by-test true h below l = h
+    by-test false h below l = below (omega arith)
+
+-- it holds of none below k; and of k, where k is not the end
+pub where-is : (n : ℕ) (f : ℕ → Bool) (k : ℕ) → k ≤ n → ((i : ℕ) → i < k → f i ≡ false) → (k < n → f k ≡ true) → firstWhere n f ≡ k
+unfolding firstWhere
+where-is zero f k l below here = omega arith
+where-is (suc n) f zero l below here = rw (here (omega arith))
+where-is (suc n) f (suc k) l below here =
+    rw (below 0 (omega arith)) (ap suc (where-is n (λ i. f (suc i)) k (omega arith) (λ i m. below (suc i) (omega arith)) (λ m. here (omega arith))))
 
 -- as much over it leaves nothing of it
 pub over-over : {A : Type 0} (xs ys lent : List A) → length xs ≡ length ys → xs over (ys over lent) ≡ xs over lent

@@ -4,8 +4,8 @@ use mathlib.Core.Bool.{Bool, true, false}
 use Prim.Native.Nat.{ℕ, zero, suc, _+_, _-_, _*_, _<_, min}
 use native.Mathlib.Nat.{suc-mul, zero-mul}
 use native.Mathlib.Omega.{arith}
-use lib.Dec.{leb}
-use borrow.Author.Tests.{leb-true, leb-false}
+use lib.Dec.{eqb, leb}
+use borrow.Author.Tests.{leb-true, leb-false, eq-eqb, ne-eqb, eqb-true, eqb-false}
 
 -- where a factor stops at c, the product may as well
 pub min-times : (d x c : ℕ) → min (d * min x c) c ≡ min (d * x) c
@@ -37,3 +37,11 @@ rest-capped x y c room l ep ee et = rw (et, ee, ep) (rest x y c room l)
 
     rest : (x y c room : ℕ) → room < c → min y room - x ≡ min (min y c) room - min x c
     rest x y c room l = rw (inside y c room l) (omega arith)
+
+-- nor is it a number below the cap that the count is not
+pub equal-capped : (x d c : ℕ) {p : ℕ} → d < c → p ≡ min x c → eqb p d ≡ eqb x d
+equal-capped x d c {p} l ep = by-test (eqb x d) refl
+  where
+    by-test : (t : Bool) → eqb x d ≡ t → eqb p d ≡ eqb x d
+    by-test true h = eq-eqb p d (omega (arith, eqb-true x d h)) ∙ sym h
+    by-test false h = ne-eqb p d (λ e. eqb-false x d h (omega arith)) ∙ sym h

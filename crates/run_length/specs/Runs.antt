@@ -1,28 +1,21 @@
 -- Runs, one code after another: what a turn owes to document 01's levels. Assumes nothing.
 use mathlib.Core.Path.{_≡_}
 use mathlib.Core.Bool.{cond}
-use mathlib.Core.List.{List, _++_, flatMap}
+use mathlib.Core.List.{List, _∷_, _++_, flatMap}
 use Prim.Native.Nat.{ℕ, _+_, _-_, _*_, _/_, _%_, _^_, _≤_, _<_, min}
 use lib.Dec.{leb}
 use lib.ListN.{length, replicate, take}
 use Rattle.format.specs.Lists.{_over_}
 use Rattle.format.specs.Layout.{levelOctets}
 use Rattle.format.specs.Refusals.{limit}
-use Rattle.format.specs.Bits.{fieldOf}
-use Rattle.format.specs.RunLength.{baseOf, levelsOf, levelsIn}
+use Rattle.format.specs.Bits.{numberAt}
+use Rattle.format.specs.RunLength.{baseOf, levelsOf, levelsUpTo, codesRead}
 use Rattle.run_length.specs.declared.Run.{Run}
 use Rattle.run_length.specs.declared.Turn.{Turn}
 
 -- one more than the greatest count that is accepted: numbers above it need no telling apart
 abbrev pub cap : ℕ
 cap = limit + 1
-
--- "All whole codes in the payload are read; fewer than b bits at the end are ignored.": how many are left from bit p on
-unfoldable pub codesLeft : ℕ → List ℕ → ℕ → ℕ
-codesLeft b payload p = (length payload * 8 - p) / b
-
-abbrev pub codesFrom : ℕ → List ℕ → ℕ → List ℕ
-codesFrom b payload p = fieldOf payload p b (codesLeft b payload p)
 
 -- the place of a run's next code
 abbrev pub placeOf : Run → ℕ
@@ -61,27 +54,27 @@ meaning b M r code =
       };
     }
 
--- with the run's weight as it would be without a cap: what the codes from the run on mean is `count` more points of a level,
--- and then what those from the next run on mean
-pub record Exactly (b M : ℕ) (payload : List ℕ) (r : Run) (weight n : ℕ) (next : Run) : Type 0 where
+-- with the run's weight as it would be without a cap: what a code and those behind it mean is `count` more points of a level,
+-- and then what those behind it mean from the next run on
+pub record Exactly (b M code : ℕ) (r : Run) (weight n : ℕ) (next : Run) : Type 0 where
   pub count : ℕ
   pub after : ℕ
   pub count-is : min n cap ≡ min count cap
   pub after-is : next .weight ≡ min after cap
-  pub levels : levelsOf M (baseOf b M) (r .level) weight (codesFrom b payload (placeOf r))
-      ≡ replicate count (next .level) ++ levelsOf M (baseOf b M) (next .level) after (codesFrom b payload (placeOf next))
+  pub levels : (codes : List ℕ) → levelsOf M (baseOf b M) (r .level) weight (code ∷ codes)
+      ≡ replicate count (next .level) ++ levelsOf M (baseOf b M) (next .level) after codes
 
 pub record More (b M : ℕ) (payload : List ℕ) (r : Run) (n : ℕ) (next : Run) : Type 0 where
   pub within : Within payload next
-  pub ahead : placeOf r < placeOf next
+  pub ahead : placeOf next ≡ placeOf r + b
   pub few : n < 2 ^ 57
-  pub exact : (weight : ℕ) → r .weight ≡ min weight cap → Exactly b M payload r weight n next
+  pub exact : (weight : ℕ) → r .weight ≡ min weight cap → Exactly b M (numberAt payload (placeOf r) b) r weight n next
 
 -- before the first code
 abbrev pub firstRun : Run
 firstRun = record { octet = record { 0 = 0 }; bit = 0; level = 0; weight = 1 }
 
--- all codes unrolled: how many levels there are, up to the cap, and the first `room` of them stored
-pub record Unrolling (b M : ℕ) (payload : List ℕ) (room : ℕ) (lent : List ℕ) (points : ℕ) (levels : List ℕ) : Type 0 where
-  pub count : points ≡ min (length (levelsIn b M payload)) cap
-  pub there : levels ≡ flatMap levelOctets (take room (levelsIn b M payload)) over lent
+-- the codes that are read, unrolled: how many levels there are, up to the cap, and the first `room` of them stored
+pub record Unrolling (b M declared : ℕ) (payload : List ℕ) (room : ℕ) (lent : List ℕ) (points : ℕ) (levels : List ℕ) : Type 0 where
+  pub count : points ≡ min (length (levelsUpTo b M payload (codesRead b M declared payload))) cap
+  pub there : levels ≡ flatMap levelOctets (take room (levelsUpTo b M payload (codesRead b M declared payload))) over lent

@@ -1,6 +1,6 @@
 // Run-length, template 7.200: codes are levels, or repeat the last level in digits of a base.
 ghost use mathlib.Core.Path.{_≡_};
-ghost use mathlib.Core.Bool.{cond};
+ghost use mathlib.Core.Bool.{cond, _||_, _&&_};
 ghost use mathlib.Core.List.{flatMap};
 ghost use Prim.Native.Nat.{_+_, _-_, _*_, _/_, _<_, _≤_, _^_, min};
 ghost use lib.Dec.{ltb};
@@ -9,7 +9,7 @@ ghost use lib.Seq.{sets};
 ghost use Rattle.format.specs.Refusals.{limit, left};
 ghost use Rattle.format.specs.Bits.{numberAt};
 ghost use Rattle.format.specs.Layout.{levelSize, levelOctets};
-ghost use Rattle.format.specs.RunLength.{codesIn, repeatsFirst, runLength};
+ghost use Rattle.format.specs.RunLength.{wholeCodes, codesUpTo, onlyPadding, repeatsFirst, runLength};
 ghost use Rattle.run_length.specs.Runs.{cap, placeOf, Coding, Waiting, meaning, Unrolling, firstRun};
 use format::BitPlace;
 use format::OctetPlace;
@@ -80,16 +80,37 @@ fn digit(code: usize, greatest: usize) -> usize
     0
 }
 
-// Where reading ends: "fewer than b bits at the end are ignored". Where five octets are there, which reading a code asks for
-// too, no code ends the payload. The octets that a code reaches into are rounded up by 7 more bits, which cannot overflow here.
-fn ends(payload: &[u8], octet: OctetPlace, bit: usize, bits: usize) -> bool
-    requires { ⌜ (octet .0 ≤ length (now payload)) × (bit ≤ 7) × (bits ≤ 15) ⌝ }
-    ensures { λ r. ⌜ r ≡ ltb (length (now (payload .entry)) * 8) (octet .0 * 8 + bit + bits) ⌝ }
+// Whether "fewer than 8 bits are left, all zero": they are the last of one octet, and do not begin it.
+fn is_padding(payload: &[u8], octet: OctetPlace, bit: usize) -> bool
+    requires { ⌜ (octet .0 < length (now payload)) × (bit ≤ 7) ⌝ }
+    ensures { λ r. ⌜ r ≡ onlyPadding (now (payload .entry)) (octet .0 * 8 + bit) ⌝ }
+{
+    if bit == 0 {
+        return false;
+    }
+    if octet.0 + 1 < payload.len() {
+        return false;
+    }
+    stream::read_in_octet(payload, octet, bit, 8 - bit) == 0
+}
+
+// Where reading ends: "fewer than b bits at the end are ignored", and once the declared count is `reached`, padding is not
+// read. Where five octets are there, which reading a code asks for too, neither ends the payload. The octets that a code
+// reaches into are rounded up by 7 more bits, which cannot overflow here.
+fn ends(payload: &[u8], octet: OctetPlace, bit: usize, bits: usize, reached: bool) -> bool
+    requires { ⌜ (octet .0 ≤ length (now payload)) × (bit ≤ 7) × (0 < bits) × (bits ≤ 15) ⌝ }
+    ensures { λ r. ⌜ r ≡ (ltb (length (now (payload .entry)) * 8) (octet .0 * 8 + bit + bits) || (reached && onlyPadding (now (payload .entry)) (octet .0 * 8 + bit))) ⌝ }
 {
     if octet.0 + 5 <= payload.len() {
         return false;
     }
-    payload.len() < octet.0 + places::octet_of(BitPlace(bit + bits + 7)).0
+    if payload.len() < octet.0 + places::octet_of(BitPlace(bit + bits + 7)).0 {
+        return true;
+    }
+    if reached {
+        return is_padding(payload, octet, bit);
+    }
+    false
 }
 
 // Takes the next code. Levels and repeat codes alternate as the map has it, so a branch between them would be guessed wrong:
@@ -160,17 +181,24 @@ fn repeat(levels: &mut [u8], from: usize, to: usize, room: usize, level: u16)
     }
 }
 
-// Unrolls all codes: stores the first `room` levels, and answers how many there are, or the cap where they are more. With no
-// room it decides, with all of them it stores.
-fn unroll(bits: usize, greatest: usize, payload: &[u8], levels: &mut [u8], room: usize) -> usize
-    requires { ⌜ Coding bits greatest × (room ≤ limit) × (room * levelSize ≤ length (now levels)) ⌝ }
-    ensures { λ r. ⌜ Unrolling bits greatest (now (payload .entry)) room (now (levels .entry)) r (now (levels .exit)) ⌝ }
+// Unrolls the codes that are read: stores the first `room` levels, and answers how many there are, or the cap where they are
+// more. With no room it decides, with all of them it stores.
+fn unroll(
+    bits: usize,
+    greatest: usize,
+    declared: usize,
+    payload: &[u8],
+    levels: &mut [u8],
+    room: usize,
+) -> usize
+    requires { ⌜ Coding bits greatest × (declared ≤ limit) × (room ≤ limit) × (room * levelSize ≤ length (now levels)) ⌝ }
+    ensures { λ r. ⌜ Unrolling bits greatest declared (now (payload .entry)) room (now (levels .entry)) r (now (levels .exit)) ⌝ }
 {
     let mut run = start();
     let mut points = 0usize;
     loop {
         let octet = run.octet;
-        if ends(payload, octet, run.bit, bits) {
+        if ends(payload, octet, run.bit, bits, points == declared) {
             return points;
         }
         let turn = taken(bits, greatest, payload, run);
@@ -185,9 +213,9 @@ fn unroll(bits: usize, greatest: usize, payload: &[u8], levels: &mut [u8], room:
 // Whether there is a first code, and it repeats.
 fn repeats_first(bits: usize, greatest: usize, payload: &[u8]) -> bool
     requires { ⌜ Coding bits greatest ⌝ }
-    ensures { λ r. ⌜ r ≡ repeatsFirst greatest (codesIn bits (now (payload .entry))) ⌝ }
+    ensures { λ r. ⌜ r ≡ repeatsFirst greatest (codesUpTo bits (now (payload .entry)) (wholeCodes bits (now (payload .entry)))) ⌝ }
 {
-    if ends(payload, OctetPlace(0), 0, bits) {
+    if ends(payload, OctetPlace(0), 0, bits, false) {
         return false;
     }
     greatest < (stream::read_number(payload, BitPlace(0), bits) as usize)
@@ -218,15 +246,15 @@ pub fn run_length(
     if repeats_first(b, top, payload) {
         return Unrolled::Refused(Refusal::Repeat);
     }
-    if unroll(b, top, payload, levels, 0) != count {
+    if format::LIMIT < declared {
         return Unrolled::Refused(Refusal::Points);
     }
-    if format::LIMIT < declared {
+    if unroll(b, top, count, payload, levels, 0) != count {
         return Unrolled::Refused(Refusal::Points);
     }
     if levels.len() / format::LEVEL_SIZE < count {
         return Unrolled::Refused(Refusal::Room);
     }
-    unroll(b, top, payload, levels, count);
+    unroll(b, top, count, payload, levels, count);
     Unrolled::Levels(declared)
 }

@@ -1,5 +1,6 @@
 -- `run_length::run_length` meets its contract. Assumes nothing.
-use Rattle.format.specs.RunLength.{runLength}
+use mathlib.Core.Path.{refl}
+use Rattle.format.specs.RunLength.{runLengthUpTo}
 use Rattle.format.specs.declared.Refusal.the-variants.{Width, Repeat, Points, Room}
 use Rattle.run_length.proofs.Passes.{refused-behind, stored-behind, unrolling-none, unrolling-all}
 use Rattle.laws.specs.First.{decides, tests, flag-same}
@@ -9,23 +10,23 @@ use Rattle.run_length.proofs.run_length.Statement.{statement}
 use Rattle.run_length.proofs.run_length.Tie as tie
 
 returns : tie.Need-returns
-unfolding runLength
+unfolding runLengthUpTo
 returns c = decides _ Width _ _ (omega (arith, tests))
 
 returns-2 : tie.Need-returns-2
-unfolding runLength
+unfolding runLengthUpTo
 returns-2 c = decides _ Width _ _ (omega (arith, tests))
 
 returns-3 : tie.Need-returns-3
-unfolding runLength
+unfolding runLengthUpTo
 returns-3 c = decides _ Width _ _ (omega (arith, tests))
 
 returns-4 : tie.Need-returns-4
-unfolding runLength
+unfolding runLengthUpTo
 returns-4 c = decides _ Repeat _ _ (omega (arith, tests, flag-same))
 
 returns-5 : tie.Need-returns-5
-returns-5 c = refused-behind _ _ _ _ _ Points (search unrolling-none) (omega (arith, tests, flag-same))
+returns-5 c = refused-behind _ _ _ _ _ Points refl (omega (arith, tests, flag-same))
 
 returns-6 : tie.Need-returns-6
 returns-6 c = refused-behind _ _ _ _ _ Points (search unrolling-none) (omega (arith, tests, flag-same))
@@ -34,7 +35,9 @@ returns-7 : tie.Need-returns-7
 returns-7 c = refused-behind _ _ _ _ _ Room (search unrolling-none) (omega (arith, tests, flag-same))
 
 returns-8 : tie.Need-returns-8
-returns-8 c = stored-behind _ _ _ _ _ (search unrolling-all) (omega (arith, tests, flag-same))
+returns-8 c =
+    let decided = c .before .before .before .before .before .before .before .before .unroll .ensures in
+    stored-behind _ _ _ _ _ (unrolling-all _ decided (omega arith) (omega arith) (c .before .before .unroll2 .ensures)) (omega (arith, tests, flag-same))
 
 pub run-length-spec : {M : Type 1} → statement M
 run-length-spec =
@@ -46,9 +49,8 @@ run-length-spec =
     returns-3
     (λ c κs. search needs)
     returns-4
-    (λ c κs. search needs)
-    (λ c. search needs)
     returns-5
+    (λ c κs. search needs)
     (λ c. search needs)
     returns-6
     (λ c. search needs)

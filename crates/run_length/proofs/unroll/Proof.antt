@@ -9,10 +9,10 @@ use Rattle.run_length.proofs.unroll.Statement.{statement}
 use Rattle.run_length.proofs.unroll.Tie as tie
 
 abbrev Inv-loop : tie.InvT-loop
-Inv-loop bits greatest payload levels₀ room run₀ points₀ levels run points = Unrolled bits greatest payload room levels₀ run points levels
+Inv-loop bits greatest declared payload levels₀ room run₀ points₀ levels run points = Unrolled bits greatest declared payload room levels₀ run points levels
 
 abbrev μ-loop : tie.MeasureT-loop
-μ-loop bits greatest payload levels₀ room run₀ points₀ levels run points = length payload * 8 - placeOf run
+μ-loop bits greatest declared payload levels₀ room run₀ points₀ levels run points = length payload * 8 - placeOf run
 
 pub unroll-spec : {M : Type 1} → statement M
 unroll-spec =
