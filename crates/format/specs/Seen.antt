@@ -172,10 +172,11 @@ abbrev levelsCount : Unrolled → List ℕ
 levelsCount (unrolled.Levels count) = count ∷ []
 levelsCount (unrolled.Refused r) = []
 
+abbrev pub unrolls : Left Unrolled → Seen
+unrolls r = record { number = unrolledNumber (r .answer); answers = levelsCount (r .answer); left = r .buffer ∷ [] }
+
 abbrev pub unrollingIn : ℕ → ℕ → ℕ → List ℕ → ℕ → Seen
-unrollingIn b M declared payload room =
-    let r = runLength b M declared payload (lent room) in
-    record { number = unrolledNumber (r .answer); answers = levelsCount (r .answer); left = r .buffer ∷ [] }
+unrollingIn b M declared payload room = unrolls (runLength b M declared payload (lent room))
 
 abbrev pub unrolling : ℕ → ℕ → ℕ → List ℕ → Seen
 unrolling b M declared payload = unrollingIn b M declared payload (declared * levelSize)
