@@ -1,6 +1,6 @@
 -- The laws of the words for lists. Assumes nothing.
 use mathlib.Core.Path.{_≡_, refl, sym, ap, ap₂, _∙_}
-use mathlib.Core.Bool.{Bool, true, false, cond, _||_, or-true, false≢true}
+use mathlib.Core.Bool.{Bool, true, false, cond, _||_, _&&_, or-true, false≢true}
 use mathlib.Core.List.{List, [], _∷_, _++_, append-assoc, append-nil, map}
 use Prim.Native.Nat.{ℕ, zero, suc, _+_, _-_, _≤_, _<_}
 use native.Mathlib.Nat.{not-suc-le-zero, add-zero, add-suc, zero-add, suc-add, sub-zero, zero-sub}
@@ -107,7 +107,7 @@ take-of-drop (suc a) zero l = rw (zero-sub (suc a))
 take-of-drop (suc a) (suc e) [] = take-nil (suc e - suc a)
 take-of-drop (suc a) (suc e) (x ∷ l) = let d : suc e - suc a ≡ e - a = omega arith in rw d (take-of-drop a e l)
 
--- ---- whether f holds of one
+-- ---- two tests
 
 pub either-left : (a b : Bool) → (a || b) ≡ false → a ≡ false
 either-left true b e = e
@@ -116,6 +116,16 @@ either-left false b e = refl
 pub either-right : (a b : Bool) → (a || b) ≡ false → b ≡ false
 either-right true b e = absurd (false≢true (sym e))
 either-right false b e = e
+
+pub both-left : (a b : Bool) → (a && b) ≡ true → a ≡ true
+both-left true b e = refl
+both-left false b e = e
+
+pub both-right : (a b : Bool) → (a && b) ≡ true → b ≡ true
+both-right true b e = e
+both-right false b e = absurd (false≢true e)
+
+-- ---- whether f holds of one
 
 module _ {A : Type 0} (f : A → Bool) where
   pub any-here : (xs : List A) (d : A) (k : ℕ) → k < length xs → f (getD xs k d) ≡ true → anyOf f xs ≡ true

@@ -1,6 +1,6 @@
 -- The laws of run-length maps. Assumes nothing.
 use mathlib.Core.Path.{_≡_, refl, sym, ap, _∙_}
-use mathlib.Core.Bool.{Bool, true, false, _&&_, false≢true}
+use mathlib.Core.Bool.{Bool, true, false, _&&_}
 use mathlib.Core.List.{List, [], _∷_, _++_, append-assoc}
 use Prim.Native.Nat.{ℕ, zero, suc, _+_, _-_, _*_, _/_, _≤_, _<_}
 use native.Mathlib.Nat.{zero-div, zero-mod}
@@ -11,7 +11,7 @@ use borrow.Author.Tests.{ltb-true, ltb-false, lt-ltb, le-ltb, eq-eqb, eqb-true}
 use Rattle.format.specs.Lists.{listed}
 use Rattle.format.specs.Bits.{bitIn, bitAt, numberAt, fieldOf}
 use Rattle.format.specs.RunLength.{baseOf, levelsOf, levelsUpTo, onlyPadding}
-use Rattle.laws.specs.Lists.{listed-ext, listed-same}
+use Rattle.laws.specs.Lists.{both-left, both-right, listed-ext, listed-same}
 use Rattle.laws.specs.Bits.{bit-lt, number-bit, number-zero, field-add}
 
 -- ---- codes behind other codes: they go on from the level and the weight that those leave
@@ -37,14 +37,6 @@ behind M base level weight (code ∷ codes) = by-test (ltb M code) refl (behind 
     by-test false h r s = record { last = s .last; raised = s .raised; levels = λ more. rw (h, s .levels more) }
 
 -- ---- padding
-
-pub both-left : (a b : Bool) → (a && b) ≡ true → a ≡ true
-both-left true b h = refl
-both-left false b h = h
-
-pub both-right : (a b : Bool) → (a && b) ≡ true → b ≡ true
-both-right true b h = h
-both-right false b h = absurd (false≢true h)
 
 -- code 0 is a level, whatever M is
 levels-zero : (M base level weight n : ℕ) → levelsOf M base level weight (replicate n 0) ≡ replicate n 0

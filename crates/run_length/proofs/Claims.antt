@@ -18,8 +18,8 @@ use Rattle.format.specs.declared.Refusal.the-variants.{Width, Repeat, Points}
 use Rattle.format.specs.declared.Unrolled.{Unrolled}
 use Rattle.format.specs.declared.Unrolled.the-variants as unrolled
 use Rattle.laws.specs.First.{Gives, decides, leaves, tests}
-use Rattle.laws.specs.Lists.{where-up-to, where-holds, where-is}
-use Rattle.laws.specs.RunLength.{both-left, both-right, padding-few, padding-zero, zero-padding, length-padded}
+use Rattle.laws.specs.Lists.{both-left, both-right, where-up-to, where-holds, where-is}
+use Rattle.laws.specs.RunLength.{padding-few, padding-zero, zero-padding, length-padded}
 use Rattle.run_length.specs.Claims.{runLengthOfAll, NothingAcceptedChanges, PaddingLeft, Narrowed, NineNarrowed, NumberFour}
 use Rattle.run_length.proofs.Codes.{whole-bits}
 
@@ -37,18 +37,16 @@ module _ (b M declared : ℕ) (payload lent : List ℕ) where
       → runLength b M declared payload lent ≡ runLengthOfAll b M declared payload lent
   alike r new old = sym (given (codesRead b M declared payload) r new) ∙ given (wholeCodes b payload) r old
 
-  module _ (n : ℕ) (another : n < wholeCodes b payload) (few : length payload * 8 - n * b < 8) where
-    -- a code of no bits is no whole one
-    some : 0 < b
-    some = by-number b refl
-      where
-        by-number : (m : ℕ) → b ≡ m → 0 < m
-        by-number zero e = absurd (omega (arith, another, div-zero (length payload * 8), ap (λ (m : ℕ). length payload * 8 / m) e))
-        by-number (suc m) e = omega arith
+  -- a code of no bits is no whole one, and one among fewer than 8 bits has at most 7
+  narrow : (n : ℕ) → n < wholeCodes b payload → length payload * 8 - n * b < 8 → (0 < b) × (b ≤ 7)
+  narrow n another few = (some, omega (arith, few, whole-bits b payload n some another))
+    where
+      by-number : (m : ℕ) → b ≡ m → 0 < m
+      by-number zero e = absurd (omega (arith, another, div-zero (length payload * 8), ap (λ (m : ℕ). length payload * 8 / m) e))
+      by-number (suc m) e = omega arith
 
-    -- and one that is among fewer than 8 bits has at most 7
-    seven : b ≤ 7
-    seven = omega (arith, few, whole-bits b payload n some another)
+      some : 0 < b
+      some = by-number b refl
 
   -- ---- where reading stops before a code
 
@@ -72,9 +70,9 @@ module _ (b M declared : ℕ) (payload lent : List ℕ) where
     -- 5, 11 and the limit of 9 refuse by both rules
     by-tests : (t u v : Bool) → ltb (2 ^ b - 1) M ≡ t → repeatsFirst M (codesUpTo b payload (wholeCodes b payload)) ≡ u → ltb limit declared ≡ v
         → (runLength b M declared payload lent ≡ runLengthOfAll b M declared payload lent) ⊎ PaddingLeft b M declared payload
-    by-tests true u v h i j = inl (alike Width (omega (arith, tests, some read short few, seven read short few)) (omega (arith, tests, some read short few, seven read short few)))
-    by-tests false true v h i j = inl (alike Repeat (omega (arith, tests, some read short few, seven read short few)) (omega (arith, tests, some read short few, seven read short few)))
-    by-tests false false true h i j = inl (alike Points (omega (arith, tests, some read short few, seven read short few)) (omega (arith, tests, some read short few, seven read short few)))
+    by-tests true u v h i j = inl (alike Width (omega (arith, tests, narrow read short few)) (omega (arith, tests, narrow read short few)))
+    by-tests false true v h i j = inl (alike Repeat (omega (arith, tests, narrow read short few)) (omega (arith, tests, narrow read short few)))
+    by-tests false false true h i j = inl (alike Points (omega (arith, tests, narrow read short few)) (omega (arith, tests, narrow read short few)))
     by-tests false false false h i j = inr record {
       low = ltb-false (2 ^ b - 1) M h;
       level-first = i;
@@ -125,7 +123,7 @@ module _ (b M declared : ℕ) (payload lent : List ℕ) where
     refused =
         sym
         (given (wholeCodes b payload) Points
-        (omega (arith, tests, p .low, p .level-first, p .limited, p .reached, length-padded b M payload (p .codes) (wholeCodes b payload) padded (p .another), some (p .codes) (p .another) (p .few), seven (p .codes) (p .another) (p .few))))
+        (omega (arith, tests, p .low, p .level-first, p .limited, p .reached, length-padded b M payload (p .codes) (wholeCodes b payload) padded (p .another), narrow (p .codes) (p .another) (p .few))))
 
     -- those that are read mean as many, and what is left to refuse is 10
     accepted : runLength b M declared payload lent
@@ -136,7 +134,7 @@ module _ (b M declared : ℕ) (payload lent : List ℕ) where
         ap (λ (n : ℕ). runLengthUpTo b M declared payload n lent) read-is
         ∙ sym
         (leaves (λ r. left (unrolled.Refused r) lent) 6 (rows (p .codes)) _
-        (omega (arith, tests, p .low, p .level-first, p .limited, p .reached, some (p .codes) (p .another) (p .few), seven (p .codes) (p .another) (p .few))))
+        (omega (arith, tests, p .low, p .level-first, p .limited, p .reached, narrow (p .codes) (p .another) (p .few))))
 
 nine-narrowed : NineNarrowed
 nine-narrowed b M declared payload lent = record {
