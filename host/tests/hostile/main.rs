@@ -34,6 +34,9 @@ trait Operation {
 
     const NAME: &'static str;
 
+    /// How it accepts: in one way, unless said.
+    const ACCEPTED: &'static [Class] = &[ACCEPTED];
+
     /// Its refusals, in the documents' order.
     const REFUSALS: &'static [Class];
 
@@ -146,7 +149,7 @@ struct Tally {
 
 /// The first inputs of an operation, so many of them, no two the same.
 fn run<O: Operation>(operation: &O, inputs: u64, seed: u64, around: Around) -> Tally {
-    let mut classes: Vec<(Class, u64)> = [&[ACCEPTED], O::REFUSALS].concat().into_iter().map(|c| (c, 0)).collect();
+    let mut classes: Vec<(Class, u64)> = [O::ACCEPTED, O::REFUSALS].concat().into_iter().map(|c| (c, 0)).collect();
     let mut seen = HashSet::new();
     for place in 0_u64.. {
         if seen.len() as u64 == inputs {

@@ -2,11 +2,14 @@
 
 use crate::damage::{self, Chance, DECLARED};
 use crate::support::maps::{rain, Numbers};
-use crate::support::model::run_length::{answer, call, coded, good, points, run, runs};
+use crate::support::model::run_length::{answer, call, coded, good, padding_codes, points, run, runs};
 use crate::support::{model, others};
 use crate::unpacking::real_maps;
-use crate::{Block, Class, Input, Operation};
+use crate::{Block, Class, Input, Operation, ACCEPTED};
 use cleatmow::{TemplateNumbers, LEVEL_OCTETS};
+
+/// Accepted by document 02, No. 4: the declared count is reached, and what is left is padding.
+const BEFORE_PADDING: Class = (0, "before padding");
 
 /// Good maps, each with its own count declared.
 pub struct RunLength(Vec<Map>);
@@ -31,6 +34,8 @@ impl Operation for RunLength {
 
     const NAME: &'static str = "run-length";
 
+    const ACCEPTED: &'static [Class] = &[ACCEPTED, BEFORE_PADDING];
+
     const REFUSALS: &'static [Class] = &[(5, ""), (11, ""), (9, ""), (10, "")];
 
     fn damaged(&self, chance: &mut Chance) -> Reading {
@@ -45,6 +50,11 @@ impl Operation for RunLength {
             let count = map.count();
             if count <= most && !chance.once_in(3) {
                 map.declared = count as u32;
+                let padding = map.padding();
+                if padding > 0 && chance.once_in(2) {
+                    // Only padding is left then; or one point more.
+                    map.declared = map.declared.saturating_sub(1 + chance.below(padding + 1) as u32);
+                }
             }
             // More is not lent: 9 comes before 10.
             let declared = if u128::from(map.declared) <= most { map.declared } else { good.map.declared };
@@ -75,6 +85,11 @@ impl Map {
     fn count(&self) -> u128 {
         runs(self.bits, self.max_level, &self.payload).map_or(0, |runs| points(&runs))
     }
+
+    /// The codes at its end that may be left unread; 0 where it is refused before they are counted.
+    fn padding(&self) -> usize {
+        runs(self.bits, self.max_level, &self.payload).map_or(0, |_| padding_codes(self.bits, &self.payload) as usize)
+    }
 }
 
 impl Input for Reading {
@@ -96,12 +111,16 @@ impl Input for Reading {
         let lent = lent[0].octets();
         let (number, left) = answer((*bits, *max_level, *declared, payload), lent);
         lent.copy_from_slice(&left);
-        (number, "")
+        if number == 0 && self.map.count() > u128::from(*declared) {
+            BEFORE_PADDING
+        } else {
+            (number, "")
+        }
     }
 }
 
 impl RunLength {
-    /// Document 01's cases, parts of the real maps with their numbers for levels, small maps by other writers, and made
+    /// The documents' cases, parts of the real maps with their numbers for levels, small maps by other writers, and made
     /// ones.
     pub fn new() -> RunLength {
         let mut chance = Chance(Numbers::new(200));
