@@ -51,8 +51,8 @@ impl Operation for RunLength {
             if count <= most && !chance.once_in(3) {
                 map.declared = count as u32;
                 let padding = map.padding();
-                if padding > 0 && chance.once_in(2) {
-                    // Only padding is left then; or one point more.
+                if padding > 0 && !chance.once_in(3) {
+                    // Only padding is left then, or one code more than that.
                     map.declared = map.declared.saturating_sub(1 + chance.below(padding + 1) as u32);
                 }
             }
@@ -68,8 +68,15 @@ impl Operation for RunLength {
 }
 
 fn damage(chance: &mut Chance, map: &mut Map) {
-    match chance.below(14) {
+    match chance.below(18) {
         0..=9 => damage::octets(chance, &mut map.payload),
+        14..=17 => {
+            // Zero bits at the end, as far as they can be padding.
+            let zeros = 1 + chance.below(7);
+            if let Some(last) = map.payload.last_mut() {
+                *last = *last >> zeros << zeros;
+            }
+        }
         10 => damage::octet(chance, &mut map.bits, &[0, 1, 2, 15, 16, 17, 255]),
         11 => {
             let beyond = 1 << (map.bits % 16);
@@ -140,7 +147,8 @@ impl RunLength {
         for points in [1, 2, 5, 30, 100, 1_000, 3_000] {
             maps.push(map(8, 200, &rain(points).payload));
         }
-        for bits in (1..=15).cycle().take(450) {
+        // Up to b 7 a code can be padding.
+        for bits in (1..=15).chain(1..=7).chain(1..=7).cycle().take(870) {
             let greatest = (1 << bits) - 1;
             let any = chance.below(greatest + 1);
             let max_level = chance.one_of(&[0, 1, greatest / 2, greatest - 1, greatest, any, any]) as u16;
