@@ -1,4 +1,4 @@
-//! docs/DIFFERENCES.md: each number with its input, what document 01 answers and what the Rust makes of it. It fails if
+//! docs/DIFFERENCES.md: each number with its input, what the documents answer and what the Rust makes of it. It fails if
 //! either changes. The Rust's overflows are checked in the profile `dev`, and not with `cargo test --release`: both
 //! columns are held. 14, the level map, is no matter of an input.
 #![cfg(have_text)]
