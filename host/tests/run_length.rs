@@ -17,7 +17,7 @@ fn compare(input: Input, len: usize) -> u32 {
     guarded::compare(shown, len, |lent| answer(input, lent), |lent| call(input, lent)).0
 }
 
-/// The same with zero digits up to the end of an octet. They add no point, where zero bits would be a level.
+/// The same with zero digits up to the end of an octet. They add no point, where zero bits could be a level.
 fn whole(bits: u8, max_level: u16, codes: &[u16]) -> Vec<u8> {
     let mut codes = codes.to_vec();
     codes.resize(codes.len().next_multiple_of(8), max_level + 1);
@@ -174,6 +174,14 @@ fn the_declared_count_has_a_limit() {
         let into = run_length_into(bits, max_level, MOST_POINTS + 1, &above, &mut room);
         assert_eq!(into, Err(Refusal::Points));
         assert!(room.iter().all(|octet| *octet == 7));
+    }
+    // The limit is the declared count's, not that of all codes: with padding they are one point more.
+    let padded = coded(4, &run(4, 10, 1, MOST_POINTS));
+    assert_eq!(runs(4, 10, &padded).map(|runs| points(&runs)), Ok(u128::from(MOST_POINTS) + 1));
+    let levels = run_length(4, 10, MOST_POINTS, &padded).unwrap();
+    assert!(levels.len() == MOST_POINTS as usize && levels.iter().all(|level| *level == 1));
+    for declared in [MOST_POINTS - 1, MOST_POINTS + 1, MOST_POINTS + 2] {
+        assert_eq!(run_length(4, 10, declared, &padded), Err(Refusal::Points));
     }
     // The same limit without a repeat code.
     let mut every = vec![0x5A; MOST_POINTS as usize / 8];

@@ -23,7 +23,7 @@ use std::hash::{DefaultHasher, Hash, Hasher};
 use std::panic::{catch_unwind, resume_unwind, AssertUnwindSafe};
 use support::maps::Numbers;
 
-/// An answer: its number and, where the documents list the number more than once for an operation, what it is for.
+/// An answer: its number and, where the documents give the number to an operation in more than one way, in which.
 type Class = (u32, &'static str);
 
 const ACCEPTED: Class = (0, "");

@@ -70,20 +70,20 @@ impl Operation for RunLength {
 fn damage(chance: &mut Chance, map: &mut Map) {
     match chance.below(18) {
         0..=9 => damage::octets(chance, &mut map.payload),
-        14..=17 => {
-            // Zero bits at the end, as far as they can be padding.
-            let zeros = 1 + chance.below(7);
-            if let Some(last) = map.payload.last_mut() {
-                *last = *last >> zeros << zeros;
-            }
-        }
         10 => damage::octet(chance, &mut map.bits, &[0, 1, 2, 15, 16, 17, 255]),
         11 => {
             let beyond = 1 << (map.bits % 16);
             let limits = [0, 1, beyond - 1, beyond, beyond.max(2) - 2, u16::MAX.into()];
             map.max_level = damage::number(chance, map.max_level.into(), 16, &limits) as u16;
         }
-        _ => damage::long(chance, &mut map.declared, &DECLARED),
+        12 | 13 => damage::long(chance, &mut map.declared, &DECLARED),
+        _ => {
+            // Zero bits at the end, as far as they can be padding.
+            let zeros = 1 + chance.below(7);
+            if let Some(last) = map.payload.last_mut() {
+                *last = *last >> zeros << zeros;
+            }
+        }
     }
 }
 
