@@ -36,8 +36,9 @@ compare:
 
 # Hostile input, in minutes: a million damaged copies of good inputs through each C call, with guard octets about every
 # buffer; then fewer, in blocks of their own size, under valgrind, where it is there and the machine is x86-64; 10,000
-# damaged GRIB2 files through the command; and one point by itself at every place of a real map. A few thousand damaged
-# inputs, 1,000 files and 1,636 places are part of `host`.
+# damaged GRIB2 files through the command; one point by itself at every place of a real map; and run-length on every payload
+# of up to two octets with every b, declared as 0 to 20 points. A few thousand damaged inputs, 1,000 files, 1,636 places and
+# 1,025 such payloads are part of `host`.
 MEMCHECK := ["valgrind", "--quiet", "--error-exitcode=1", "--redzone-size=256"]
 hostile:
 	@cd host && $(CARGO) test --release --test hostile -- --ignored --exact --nocapture a_million_of_each
@@ -52,6 +53,7 @@ hostile:
 	fi
 	@cd host && $(CARGO) test --release --test desk -- --ignored --exact chance::ten_thousand_damaged_files
 	@cd host && $(CARGO) test --release --test point -- --ignored --exact every_place_of_the_real_map
+	@cd host && $(CARGO) test --release --test run_length -- --ignored --exact --nocapture every_payload_of_up_to_two_octets
 
 # The live comparison at scale, in minutes: millions of inputs for each operation, and the tables of docs/DIFFERENCES.md.
 oracle:

@@ -21,9 +21,9 @@
 #define CLEATMOW_H
 
 /* The version of the calls and of this header. */
-#define CLEATMOW_VERSION "0.4.0"
+#define CLEATMOW_VERSION "0.5.0"
 #define CLEATMOW_VERSION_MAJOR 0
-#define CLEATMOW_VERSION_MINOR 4
+#define CLEATMOW_VERSION_MINOR 5
 #define CLEATMOW_VERSION_PATCH 0
 
 #include <stddef.h>
@@ -51,7 +51,8 @@ enum cleatmow_refusal {
     CLEATMOW_REFUSAL_SHORT = 7,
     /* a group width above 31, or a length other than the last above 4,294,967,295 */
     CLEATMOW_REFUSAL_GROUP_SIZE = 8,
-    /* points do not equal the declared count, or that count is above 4,194,304 */
+    /* points do not equal the declared count, or that count is above 4,194,304; where run-length reading stops before
+       padding, the points are those before it */
     CLEATMOW_REFUSAL_POINTS = 9,
     /* a lent buffer is too small */
     CLEATMOW_REFUSAL_ROOM = 10,
@@ -272,8 +273,10 @@ uint32_t cleatmow_unpack_spatial(
     uint8_t *points, size_t points_len);
 
 /*
- * Run-length, template 7.200: reads the levels of a map. All whole codes in the payload are read; fewer than `bits`
- * bits at the end are ignored. A payload without a whole code has no points.
+ * Run-length, template 7.200: reads the levels of a map. Once the declared count is reached, reading stops before any
+ * code where fewer than 8 bits are left, all zero: padding. Else it goes on: all whole codes in the payload are read, and
+ * fewer than `bits` bits at the end are ignored. A payload without a whole code has no points. A code in the padding would
+ * be level 0, so up to b 7 a payload may be accepted for more than one declared count.
  *
  * bits         b, the bits of a code: 1 to 15
  * max_level    M, the greatest level: up to 2^b - 1. Codes 0 to M are levels, those above repeat the last level

@@ -11,7 +11,7 @@ if [ "$(uname -m)" != x86_64 ]; then
 fi
 
 # Each operation of the program, and what it calls: with cleatmow_ before it the C call, with rust_ the oracle's function.
-OPERATIONS="run_length:run_length unpack_complex:unpack_complex
+OPERATIONS="run_length:run_length run_length_1000:run_length unpack_complex:unpack_complex
     unpack_spatial_1:unpack_spatial unpack_spatial_2:unpack_spatial
     real_gust:unpack_spatial real_conus:unpack_complex real_puerto_rico:unpack_spatial
     pack_8:pack pack_64:pack pack_1024:pack
@@ -24,7 +24,8 @@ ALONE="pack_65535:pack pack_rising:pack pack_sawtooth:pack pack_patches:pack pac
 BY_SECTION5="section5_complex:unpack_complex section5_spatial:unpack_spatial"
 # One point, which is cleatmow_point.
 ONE_POINT="point_first point_middle point_last point_conus_first point_conus_middle point_conus_last"
-# Of the made maps: enough for a steady count, and few enough for callgrind. The real ones have the points that they have.
+# Of the made maps: enough for a steady count, and few enough for callgrind. The real ones have the points that they have,
+# and run_length_1000 has 1,000.
 POINTS=100000
 
 cargo build --release --offline --quiet --bin bench

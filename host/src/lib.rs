@@ -109,7 +109,8 @@
 //! # Ok::<(), cleatmow::Refusal>(())
 //! ```
 //!
-//! Run-length maps take the numbers of template 5.200:
+//! Run-length maps take the numbers of template 5.200; zero bits that pad the last octet are not read as points beyond
+//! the declared ones:
 //!
 //! ```
 //! let levels = cleatmow::run_length(4, 9, 10, &[0x3C, 0xB5])?;

@@ -24,7 +24,8 @@ pub enum Refusal {
     Short = 7,
     /// A group width above 31, or a length other than the last above 4,294,967,295.
     GroupSize = 8,
-    /// Points do not equal the declared count, or that count is above 4,194,304.
+    /// Points do not equal the declared count, or that count is above 4,194,304. Where run-length reading stops before
+    /// padding, the points are those before it.
     Points = 9,
     /// A lent buffer is too small.
     Room = 10,

@@ -23,6 +23,17 @@ pub type Levels<'a> = Filled<'a, u16>;
 /// `bits` are those of a code, 1 to 15; `max_level` is the greatest level, up to 2^bits − 1; `declared` is how many
 /// points the map is declared to have; `payload` is Section 7 after its five-octet header.
 ///
+/// Once the declared count is reached, reading stops before any code where fewer than 8 bits are left, all zero: they are
+/// padding. Else it goes on, to the last whole code:
+///
+/// ```
+/// use cleatmow::{run_length, Refusal};
+///
+/// assert_eq!(run_length(4, 9, 4, &[0x3C, 0x50]), Ok(vec![3, 3, 3, 5]));
+/// assert_eq!(run_length(4, 9, 5, &[0x3C, 0x50]), Ok(vec![3, 3, 3, 5, 0]));
+/// assert_eq!(run_length(4, 9, 3, &[0x3C, 0x50]), Err(Refusal::Points));
+/// ```
+///
 /// # Errors
 ///
 /// [`Refusal::Width`], [`Refusal::Repeat`] and [`Refusal::Points`], tested in this order.

@@ -112,6 +112,7 @@ static int unpack_spatial(void) {
 
 static int run_length(void) {
     const uint8_t good[] = {0x3C, 0xB5}, repeat[] = {0xC3, 0xB5}, three[] = {0, 3}, five[] = {0, 5};
+    const uint8_t padded[] = {0x3C, 0x50}, front[] = {0, 3, 0, 3, 0, 3, 0, 5};
     uint8_t levels[10 * CLEATMOW_LEVEL_OCTETS + 3];
     size_t i;
     memset(levels, 0xEE, sizeof levels);
@@ -126,6 +127,15 @@ static int run_length(void) {
     for (i = 0; i < 9; i++) EXPECT(memcmp(levels + 2 * i, three, CLEATMOW_LEVEL_OCTETS) == 0);
     EXPECT(memcmp(levels + 18, five, CLEATMOW_LEVEL_OCTETS) == 0);
     EXPECT(is_all(levels + 20, 3, 0xEE));
+
+    /* Padding is left unread, and what was lent beyond the declared levels is unchanged. */
+    memset(levels, 0xEE, sizeof levels);
+    EXPECT(cleatmow_run_length(4, 9, 3, padded, 2, levels, sizeof levels) == CLEATMOW_REFUSAL_POINTS);
+    EXPECT(cleatmow_run_length(4, 9, 4, padded, 2, levels, 7) == CLEATMOW_REFUSAL_ROOM);
+    EXPECT(is_all(levels, sizeof levels, 0xEE));
+    EXPECT(cleatmow_run_length(4, 9, 4, padded, 2, levels, sizeof levels) == 0);
+    EXPECT(memcmp(levels, front, sizeof front) == 0);
+    EXPECT(is_all(levels + sizeof front, sizeof levels - sizeof front, 0xEE));
 
     /* An empty payload and an empty buffer, as null pointers. */
     EXPECT(cleatmow_run_length(4, 9, 0, NULL, 0, NULL, 0) == 0);

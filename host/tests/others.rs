@@ -3,8 +3,8 @@
 mod support;
 
 use cleatmow::{run_length, unpack, Point, Refusal, TemplateNumbers};
-use std::collections::HashSet;
-use support::model::{self, Input};
+use std::collections::{BTreeMap, HashSet};
+use support::model::{self, run_length::padding_codes, Input};
 use support::others::{maps, Map, LINES};
 
 /// Unpacks every map of a template, of which the file must have so many, and holds the answers to the file's.
@@ -59,15 +59,61 @@ fn the_model_agrees() {
     hold(3, 49, unpack);
 }
 
+/// b and M.
+fn coding(map: &Map) -> (u8, u16) {
+    let TemplateNumbers::RunLength { bits, max_level } = map.section5.numbers else {
+        panic!("{}: no map of levels", map.id);
+    };
+    (bits, max_level)
+}
+
 #[test]
 fn run_length_maps() {
     hold(200, 30, |map| {
-        let TemplateNumbers::RunLength { bits, max_level } = map.section5.numbers else {
-            panic!("{}: no map of levels", map.id);
-        };
+        let (bits, max_level) = coding(map);
         let levels = run_length(bits, max_level, map.section5.declared, &map.payload)?;
         Ok(levels.into_iter().map(|level| Point::Number(i64::from(level))).collect())
     });
+}
+
+/// Document 02, No. 4, on maps that were not made for it: with fewer points declared they are accepted where the rest is
+/// padding, as the front of their levels, and refused with 9 everywhere else.
+#[test]
+fn run_length_maps_with_fewer_points_declared() {
+    const LESS: u32 = 30;
+    // For each b: its maps, those of them that are accepted with fewer points, these lesser counts, all that were tried,
+    // and by how many points the least of them is less.
+    let mut by_bits: BTreeMap<u8, [u32; 5]> = BTreeMap::new();
+    for map in maps().iter().filter(|map| map.template == 200 && map.refusal.is_none()) {
+        let ((bits, max_level), declared) = (coding(map), map.section5.declared);
+        let levels = run_length(bits, max_level, declared, &map.payload).unwrap();
+        let padding = padding_codes(bits, &map.payload);
+        for less in 1..=declared.min(LESS) {
+            let front = &levels[..(declared - less) as usize];
+            let right = if less <= padding { Ok(front.to_vec()) } else { Err(Refusal::Points) };
+            assert_eq!(run_length(bits, max_level, declared - less, &map.payload), right, "{}: {less} less", map.id);
+        }
+        let [maps, padded, accepted, tried, most] = by_bits.entry(bits).or_default();
+        *maps += 1;
+        *padded += u32::from(padding > 0);
+        *accepted += padding;
+        *tried += declared.min(LESS);
+        *most = padding.max(*most);
+    }
+    println!("| b | maps | accepted with fewer points | lesser counts that are accepted | of | at most less |");
+    println!("|---|---|---|---|---|---|");
+    for (bits, counts) in &by_bits {
+        println!("| {bits} | {} |", counts.map(|count| count.to_string()).join(" | "));
+    }
+    let right = [
+        (1, [2, 2, 8, 35, 7]),
+        (2, [2, 1, 3, 27, 3]),
+        (3, [5, 1, 2, 124, 2]),
+        (4, [4, 2, 2, 72, 1]),
+        (6, [2, 0, 0, 60, 0]),
+        (8, [9, 0, 0, 107, 0]),
+    ];
+    assert_eq!(by_bits, BTreeMap::from(right));
 }
 
 #[test]

@@ -1,4 +1,4 @@
-//! Document 01's reading of a run-length payload, written plainly for the programs here: they have to know how many
+//! The documents' reading of a run-length payload, written plainly for the programs here: they have to know how many
 //! points an input has before they let the Rust store them, and whether the Rust can judge it at all.
 
 use crate::dice::Dice;
@@ -14,6 +14,8 @@ pub struct Coding {
 }
 
 pub struct Runs {
+    /// The codes that were read.
+    codes: usize,
     /// The first code repeats a level that is not there: document 01's 11.
     pub repeat_first: bool,
     /// Each level with its points, itself counted.
@@ -54,17 +56,44 @@ impl Coding {
         self.max_level + 1 + digit as u16
     }
 
-    /// A number too large for its kind stops at the greatest, far above any limit.
+    /// "All whole codes in the payload are read": document 01 by itself, and the Rust.
     pub fn runs(self, payload: &[u8]) -> Runs {
-        let mut read = Runs { repeat_first: false, runs: Vec::new(), weights_fit: true };
-        let mut weight: u128 = 1;
+        self.read(payload, |_, _| false)
+    }
+
+    /// Document 02, No. 4: "once the declared count is reached, reading stops before any code where fewer than 8 bits
+    /// are left, all zero; else it goes on."
+    pub fn declared_runs(self, declared: u32, payload: &[u8]) -> Runs {
+        let zeros = payload.last().map_or(0, |last| last.trailing_zeros() as usize);
+        self.read(payload, |points, left| points == declared.into() && left < 8 && left <= zeros)
+    }
+
+    /// Whether the two readings answer otherwise: the declared count is reached, and only padding is left. Document 01 by
+    /// itself and the Rust read on and refuse with 9. Document 02, No. 4: "demand 2's run-length runs leave such inputs
+    /// out."
+    pub fn leaves_padding(self, declared: u32, payload: &[u8]) -> bool {
+        declared <= MOST_POINTS && self.declared_runs(declared, payload).codes < self.runs(payload).codes
+    }
+
+    /// Reads code after code, and asks before each, of the points so far and of how many bits are left, whether reading
+    /// stops. A number too large for its kind stops at the greatest, far above any limit.
+    fn read(self, payload: &[u8], stops: impl Fn(u64, usize) -> bool) -> Runs {
+        let mut read = Runs { codes: 0, repeat_first: false, runs: Vec::new(), weights_fit: true };
+        let (mut points, mut weight) = (0_u64, 1_u128);
         for code in self.codes(payload) {
+            if stops(points, payload.len() * 8 - read.codes * usize::from(self.bits)) {
+                break;
+            }
+            read.codes += 1;
             if code <= self.max_level {
                 read.runs.push((code, 1));
+                points = points.saturating_add(1);
                 weight = 1;
-            } else if let Some((_, points)) = read.runs.last_mut() {
+            } else if let Some((_, length)) = read.runs.last_mut() {
                 let more = u128::from(code - self.repeat(0)).saturating_mul(weight);
-                *points = points.saturating_add(u64::try_from(more).unwrap_or(u64::MAX));
+                let more = u64::try_from(more).unwrap_or(u64::MAX);
+                *length = length.saturating_add(more);
+                points = points.saturating_add(more);
                 weight = weight.saturating_mul(self.base().into());
                 read.weights_fit &= usize::try_from(weight).is_ok();
             } else {
@@ -132,7 +161,7 @@ impl Runs {
         points.fold(0, |sum: u64, points| sum.saturating_add(*points))
     }
 
-    /// Document 01's answer: all levels, or the number of the refusal.
+    /// The answer where these were read: all levels, or the number of the refusal.
     pub fn answer(&self, declared: u32) -> Result<Vec<u16>, u32> {
         if self.repeat_first {
             return Err(11);

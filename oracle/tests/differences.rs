@@ -1,4 +1,4 @@
-//! docs/DIFFERENCES.md: each number with its input, what document 01 answers and what the Rust makes of it. It fails if
+//! docs/DIFFERENCES.md: each number with its input, what the documents answer and what the Rust makes of it. It fails if
 //! either changes. The Rust's overflows are checked in the profile `dev`, and not with `cargo test --release`: both
 //! columns are held. 14, the level map, is no matter of an input.
 #![cfg(have_text)]
@@ -124,6 +124,22 @@ fn each_difference_of_run_length_is_as_it_is_written() {
     hold("12", (1, 1, 8 * above.len(), &above), Err(9), Answer(vec![0; 8 * above.len()]));
     let ours = run_length_into(1, 1, 8, &[0], &mut []).map_err(|refusal| refusal.number());
     assert_eq!((ours, oracle::run_length(1, 1, 8, &[0])), (Err(10), Answer(vec![0; 8])), "13");
+    let mismatch = || Refused("LengthMismatch".into());
+    hold("37", (1, 0, 1, &[0]), Ok(vec![0]), mismatch());
+    hold("37, none declared", (1, 0, 0, &[0]), Err(9), mismatch());
+    hold("37, padding that is read", (1, 0, 8, &[0]), Ok(vec![0; 8]), Answer(vec![0; 8]));
+    hold("37, a case", (4, 9, 4, &[0x3c, 0x50]), Ok(vec![3, 3, 3, 5]), mismatch());
+    hold("37, the same, all of it", (4, 9, 5, &[0x3c, 0x50]), Ok(vec![3, 3, 3, 5, 0]), Answer(vec![3, 3, 3, 5, 0]));
+    for declared in [3, 4] {
+        hold(
+            "37, more than one code",
+            (3, 7, declared, &[0xff, 0x80]),
+            Ok([7, 7, 7, 0][..declared].into()),
+            mismatch(),
+        );
+    }
+    hold("37, 8 bits are left", (4, 9, 2, &[0x30, 0]), Err(9), mismatch());
+    hold("37, not all zero", (3, 7, 3, &[0xff, 0x81]), Err(9), mismatch());
 }
 
 /// What the Rust makes of an input.

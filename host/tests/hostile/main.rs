@@ -23,7 +23,7 @@ use std::hash::{DefaultHasher, Hash, Hasher};
 use std::panic::{catch_unwind, resume_unwind, AssertUnwindSafe};
 use support::maps::Numbers;
 
-/// An answer: its number and, where the documents list the number more than once for an operation, what it is for.
+/// An answer: its number and, where the documents give the number to an operation in more than one way, in which.
 type Class = (u32, &'static str);
 
 const ACCEPTED: Class = (0, "");
@@ -33,6 +33,9 @@ trait Operation {
     type Input: Input;
 
     const NAME: &'static str;
+
+    /// How it accepts: in one way, unless said.
+    const ACCEPTED: &'static [Class] = &[ACCEPTED];
 
     /// Its refusals, in the documents' order.
     const REFUSALS: &'static [Class];
@@ -146,7 +149,7 @@ struct Tally {
 
 /// The first inputs of an operation, so many of them, no two the same.
 fn run<O: Operation>(operation: &O, inputs: u64, seed: u64, around: Around) -> Tally {
-    let mut classes: Vec<(Class, u64)> = [&[ACCEPTED], O::REFUSALS].concat().into_iter().map(|c| (c, 0)).collect();
+    let mut classes: Vec<(Class, u64)> = [O::ACCEPTED, O::REFUSALS].concat().into_iter().map(|c| (c, 0)).collect();
     let mut seen = HashSet::new();
     for place in 0_u64.. {
         if seen.len() as u64 == inputs {

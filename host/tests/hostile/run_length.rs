@@ -2,11 +2,14 @@
 
 use crate::damage::{self, Chance, DECLARED};
 use crate::support::maps::{rain, Numbers};
-use crate::support::model::run_length::{answer, call, coded, good, points, run, runs};
+use crate::support::model::run_length::{answer, call, coded, good, padding_codes, points, run, runs};
 use crate::support::{model, others};
 use crate::unpacking::real_maps;
-use crate::{Block, Class, Input, Operation};
+use crate::{Block, Class, Input, Operation, ACCEPTED};
 use cleatmow::{TemplateNumbers, LEVEL_OCTETS};
+
+/// Accepted by document 02, No. 4: the declared count is reached, and what is left is padding.
+const BEFORE_PADDING: Class = (0, "before padding");
 
 /// Good maps, each with its own count declared.
 pub struct RunLength(Vec<Map>);
@@ -31,6 +34,8 @@ impl Operation for RunLength {
 
     const NAME: &'static str = "run-length";
 
+    const ACCEPTED: &'static [Class] = &[ACCEPTED, BEFORE_PADDING];
+
     const REFUSALS: &'static [Class] = &[(5, ""), (11, ""), (9, ""), (10, "")];
 
     fn damaged(&self, chance: &mut Chance) -> Reading {
@@ -45,6 +50,11 @@ impl Operation for RunLength {
             let count = map.count();
             if count <= most && !chance.once_in(3) {
                 map.declared = count as u32;
+                let padding = map.padding();
+                if padding > 0 && !chance.once_in(3) {
+                    // Only padding is left then, or one code more than that.
+                    map.declared = map.declared.saturating_sub(1 + chance.below(padding + 1) as u32);
+                }
             }
             // More is not lent: 9 comes before 10.
             let declared = if u128::from(map.declared) <= most { map.declared } else { good.map.declared };
@@ -58,7 +68,7 @@ impl Operation for RunLength {
 }
 
 fn damage(chance: &mut Chance, map: &mut Map) {
-    match chance.below(14) {
+    match chance.below(18) {
         0..=9 => damage::octets(chance, &mut map.payload),
         10 => damage::octet(chance, &mut map.bits, &[0, 1, 2, 15, 16, 17, 255]),
         11 => {
@@ -66,7 +76,14 @@ fn damage(chance: &mut Chance, map: &mut Map) {
             let limits = [0, 1, beyond - 1, beyond, beyond.max(2) - 2, u16::MAX.into()];
             map.max_level = damage::number(chance, map.max_level.into(), 16, &limits) as u16;
         }
-        _ => damage::long(chance, &mut map.declared, &DECLARED),
+        12 | 13 => damage::long(chance, &mut map.declared, &DECLARED),
+        _ => {
+            // Zero bits at the end, as far as they can be padding.
+            let zeros = 1 + chance.below(7);
+            if let Some(last) = map.payload.last_mut() {
+                *last = *last >> zeros << zeros;
+            }
+        }
     }
 }
 
@@ -74,6 +91,11 @@ impl Map {
     /// The points that it has; 0 where it is refused before they are counted.
     fn count(&self) -> u128 {
         runs(self.bits, self.max_level, &self.payload).map_or(0, |runs| points(&runs))
+    }
+
+    /// The codes at its end that may be left unread; 0 where it is refused before they are counted.
+    fn padding(&self) -> usize {
+        runs(self.bits, self.max_level, &self.payload).map_or(0, |_| padding_codes(self.bits, &self.payload) as usize)
     }
 }
 
@@ -96,12 +118,16 @@ impl Input for Reading {
         let lent = lent[0].octets();
         let (number, left) = answer((*bits, *max_level, *declared, payload), lent);
         lent.copy_from_slice(&left);
-        (number, "")
+        if number == 0 && self.map.count() > u128::from(*declared) {
+            BEFORE_PADDING
+        } else {
+            (number, "")
+        }
     }
 }
 
 impl RunLength {
-    /// Document 01's cases, parts of the real maps with their numbers for levels, small maps by other writers, and made
+    /// The documents' cases, parts of the real maps with their numbers for levels, small maps by other writers, and made
     /// ones.
     pub fn new() -> RunLength {
         let mut chance = Chance(Numbers::new(200));
@@ -121,7 +147,8 @@ impl RunLength {
         for points in [1, 2, 5, 30, 100, 1_000, 3_000] {
             maps.push(map(8, 200, &rain(points).payload));
         }
-        for bits in (1..=15).cycle().take(450) {
+        // Up to b 7 a code can be padding.
+        for bits in (1..=15).chain(1..=7).chain(1..=7).cycle().take(870) {
             let greatest = (1 << bits) - 1;
             let any = chance.below(greatest + 1);
             let max_level = chance.one_of(&[0, 1, greatest / 2, greatest - 1, greatest, any, any]) as u16;

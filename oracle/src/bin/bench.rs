@@ -2,6 +2,7 @@
 //! timed.
 //!
 //! `bench [OPERATION] [--points N]` times one operation or all, on maps of N points, 1,000,000 without the option.
+//! `run_length_1000` has a map of 1,000 points, and makes many calls in one timing, since one takes too little.
 //! Those that begin with `real_` unpack the real maps of samples/, which have the points that they have. Those that
 //! begin with `section5_` unpack by the octets of Section 5, beside the call with typed numbers. Those that begin with
 //! `point_` read one point, the first of a map, the middle or the last, beside the unpacking of all of it. Those that
@@ -53,13 +54,14 @@ mod bench {
 
     /// Every operation, by a name of this program's own. `bench.sh` says which C call, which function of the oracle and
     /// which limit are behind it.
-    const OPERATIONS: [(&str, Run); 34] = [
+    const OPERATIONS: [(&str, Run); 35] = [
         ("run_length", |name, options| {
-            bench(name, RunLength::new(options.points), options);
+            bench(name, RunLength::new(options.points, 1), options);
             if options.calls == Calls::Timed {
                 println!("  on the made map alone: none of the real maps of samples/ is packed so");
             }
         }),
+        ("run_length_1000", |name, options| bench(name, RunLength::new(1_000, 500), options)),
         ("unpack_complex", |name, options| bench(name, Unpacking::new(gusts(options.points)), options)),
         ("unpack_spatial_1", |name, options| bench(name, Unpacking::new(gust_differences(1, options.points)), options)),
         ("unpack_spatial_2", |name, options| bench(name, Unpacking::new(gust_differences(2, options.points)), options)),
@@ -200,6 +202,10 @@ mod bench {
         }
         /// The points and the octets of the packed map.
         fn size(&self) -> (u32, usize);
+        /// How many calls are made in one timing: one, unless said.
+        fn calls(&self) -> usize {
+            1
+        }
         /// What a call goes through one by one, and how many there are: the points, unless said.
         fn units(&self) -> (u32, &'static str) {
             (self.size().0, "points")
@@ -225,11 +231,12 @@ mod bench {
     struct RunLength {
         map: RunLengthMap,
         levels: Vec<u8>,
+        calls: usize,
     }
 
     impl RunLength {
-        fn new(points: u32) -> Self {
-            Self { map: rain(points), levels: vec![0; points as usize * LEVEL_OCTETS] }
+        fn new(points: u32, calls: usize) -> Self {
+            Self { map: rain(points), levels: vec![0; points as usize * LEVEL_OCTETS], calls }
         }
     }
 
@@ -267,6 +274,10 @@ mod bench {
 
         fn size(&self) -> (u32, usize) {
             (self.map.declared, self.map.payload.len())
+        }
+
+        fn calls(&self) -> usize {
+            self.calls
         }
     }
 
@@ -790,24 +801,26 @@ mod bench {
     fn time<O: Operation>(name: &str, operation: &mut O) {
         drop(black_box(vec![1_u8; KEPT]));
         let [mut lent, mut new, mut read, mut other, mut limit] = [const { Times(Vec::new()) }; 5];
+        let calls = operation.calls();
         for _ in 0..REPETITIONS {
-            lent.add(|| operation.ours_lent());
-            other.add(|| operation.other());
+            lent.add(calls, || operation.ours_lent());
+            other.add(calls, || operation.other());
             if O::IS_LIST {
-                new.add(|| operation.ours_new());
-                other.add(|| operation.other());
+                new.add(calls, || operation.ours_new());
+                other.add(calls, || operation.other());
             }
             if O::IS_READ {
-                read.add(|| operation.ours_read());
-                other.add(|| operation.other());
+                read.add(calls, || operation.ours_read());
+                other.add(calls, || operation.other());
             }
             if O::LIMIT.is_some() {
-                limit.add(|| operation.limit());
-                other.add(|| operation.other());
+                limit.add(calls, || operation.limit());
+                other.add(calls, || operation.other());
             }
         }
         let (points, octets) = operation.size();
-        println!("{name}: {points} points in {octets} octets, nanoseconds a point");
+        let times = if calls > 1 { format!(", {calls} calls in one timing") } else { String::new() };
+        println!("{name}: {points} points in {octets} octets, nanoseconds a point{times}");
         let new = O::IS_LIST.then(|| new.report("ours, new list", points));
         let lent = lent.report(O::LENT, points);
         if O::IS_READ {
@@ -856,21 +869,24 @@ mod bench {
         if ratio < 0.095 { format!("{ratio:.4}") } else { format!("{ratio:.2}") }
     }
 
-    /// How long each call took, in nanoseconds.
-    struct Times(Vec<u128>);
+    /// How long a call took in each timing, in nanoseconds.
+    struct Times(Vec<f64>);
 
     impl Times {
-        fn add<T>(&mut self, call: impl FnOnce() -> T) {
+        fn add<T>(&mut self, calls: usize, mut call: impl FnMut() -> T) {
+            let mut answers = Vec::with_capacity(calls);
             let start = Instant::now();
-            let answer = black_box(call());
-            self.0.push(start.elapsed().as_nanos());
-            drop(answer);
+            for _ in 0..calls {
+                answers.push(black_box(call()));
+            }
+            self.0.push(start.elapsed().as_nanos() as f64 / calls as f64);
+            drop(answers);
         }
 
         /// Prints the best and the median time a point, and answers the median.
         fn report(mut self, form: &str, points: u32) -> f64 {
-            self.0.sort_unstable();
-            let [best, median] = [0, self.0.len() / 2].map(|place| self.0[place] as f64 / f64::from(points));
+            self.0.sort_unstable_by(f64::total_cmp);
+            let [best, median] = [0, self.0.len() / 2].map(|place| self.0[place] / f64::from(points));
             println!("  {form:<18} best {best:7.3}  median {median:7.3}  of {}", self.0.len());
             median
         }

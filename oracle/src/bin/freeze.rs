@@ -161,11 +161,13 @@ mod frozen {
         }
     }
 
-    /// None where the Rust is no judge, or would store more points than document 01 allows.
+    /// None where the Rust is no judge, would store more points than document 01 allows, or reads padding that document
+    /// 02, No. 4 leaves unread.
     fn run_length_row(coding: Coding, declared: u16, payload: &[u8]) -> Option<Row> {
         let Coding { bits, max_level } = coding;
         let runs = coding.runs(payload);
-        if !runs.weights_fit || runs.points() > u64::from(MOST_POINTS) {
+        let too_many = runs.points() > u64::from(MOST_POINTS);
+        if !runs.weights_fit || too_many || coding.leaves_padding(declared.into(), payload) {
             return None;
         }
         let outcome = oracle::run_length(bits, max_level, declared.into(), payload);

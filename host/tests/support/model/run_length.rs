@@ -1,4 +1,4 @@
-//! Run-length as document 01 says it, written plainly, without care for speed. And what makes inputs for it.
+//! Run-length as documents 01 and 02 say it, written plainly, without care for speed. And what makes inputs for it.
 //! `oracle/src/runs.rs` says the same.
 
 use crate::support::guarded;
@@ -8,30 +8,67 @@ use cleatmow::LEVEL_OCTETS;
 /// What a call is given beside the lent buffer: b, M, the declared count and the payload.
 pub type Input<'a> = (u8, u16, u32, &'a [u8]);
 
-/// The runs of a payload, each a level and its length, or refusal 5 or 11. Weights and lengths stop at the greatest
-/// number of 128 bits, far above any count that is accepted.
-pub fn runs(bits: u8, max_level: u16, payload: &[u8]) -> Result<Vec<(u16, u128)>, u32> {
+/// The runs of the codes that are read, each a level and its length, or refusal 5 or 11.
+pub type Runs = Result<Vec<(u16, u128)>, u32>;
+
+/// "All whole codes in the payload are read": document 01 by itself. So many points a map has where all of it is codes.
+pub fn runs(bits: u8, max_level: u16, payload: &[u8]) -> Runs {
+    read(bits, max_level, payload, |_, _| false)
+}
+
+/// Document 02, No. 4: "once the declared count is reached, reading stops before any code where fewer than 8 bits are
+/// left, all zero; else it goes on."
+pub fn declared_runs((bits, max_level, declared, payload): Input) -> Runs {
+    let reached = |points| points == u128::from(declared);
+    read(bits, max_level, payload, |points, left| reached(points) && is_padding(left))
+}
+
+/// Whether the bits that are left may be left unread.
+fn is_padding(left: &[u16]) -> bool {
+    left.len() < 8 && left.iter().all(|bit| *bit == 0)
+}
+
+/// Reads code after code, and asks before each, of the points so far and of all bits left, whether reading stops.
+/// Weights, lengths and points stop at the greatest number of 128 bits, far above any count that is accepted.
+fn read(bits: u8, max_level: u16, payload: &[u8], stops: impl Fn(u128, &[u16]) -> bool) -> Runs {
     if !(1..=15).contains(&bits) || u32::from(max_level) > (1 << bits) - 1 {
         return Err(5);
     }
-    let string: Vec<u16> =
-        payload.iter().flat_map(|octet| (0..8).rev().map(move |place| u16::from(octet >> place & 1))).collect();
+    let string = string_of(payload);
     let base = (1_u128 << bits) - 1 - u128::from(max_level);
     let mut runs: Vec<(u16, u128)> = Vec::new();
-    let mut weight = 1_u128;
-    for code in string.chunks_exact(usize::from(bits)) {
+    let (mut points, mut weight) = (0_u128, 1_u128);
+    for (place, code) in string.chunks_exact(bits.into()).enumerate() {
+        if stops(points, &string[place * usize::from(bits)..]) {
+            break;
+        }
         let code = code.iter().fold(0, |code, bit| 2 * code + bit);
         if code <= max_level {
             runs.push((code, 1));
+            points = points.saturating_add(1);
             weight = 1;
         } else {
             let (_, length) = runs.last_mut().ok_or(11_u32)?;
             let more = u128::from(code - max_level - 1).saturating_mul(weight);
             *length = length.saturating_add(more);
+            points = points.saturating_add(more);
             weight = weight.saturating_mul(base);
         }
     }
     Ok(runs)
+}
+
+/// The bits of a payload.
+fn string_of(payload: &[u8]) -> Vec<u16> {
+    payload.iter().flat_map(|octet| (0..8).rev().map(move |place| u16::from(octet >> place & 1))).collect()
+}
+
+/// How many whole codes at the end of a payload may be left unread. Each of them is level 0, and so one point: with this
+/// many points less declared than there are codes for, or fewer, a map is accepted too.
+pub fn padding_codes(bits: u8, payload: &[u8]) -> u32 {
+    let (string, bits) = (string_of(payload), usize::from(bits));
+    let codes = (0..string.len() / bits).rev();
+    codes.take_while(|code| is_padding(&string[code * bits..])).count() as u32
 }
 
 pub fn points(runs: &[(u16, u128)]) -> u128 {
@@ -39,9 +76,19 @@ pub fn points(runs: &[(u16, u128)]) -> u128 {
 }
 
 /// The answer, and the buffer as it is left.
-pub fn answer((bits, max_level, declared, payload): Input, lent: &[u8]) -> (u32, Vec<u8>) {
+pub fn answer(input: Input, lent: &[u8]) -> (u32, Vec<u8>) {
+    answer_of(declared_runs(input), input.2, lent)
+}
+
+/// The same by document 01 alone.
+pub fn answer_of_all_codes((bits, max_level, declared, payload): Input, lent: &[u8]) -> (u32, Vec<u8>) {
+    answer_of(runs(bits, max_level, payload), declared, lent)
+}
+
+/// What comes of the runs that are read.
+fn answer_of(runs: Runs, declared: u32, lent: &[u8]) -> (u32, Vec<u8>) {
     let mut left = lent.to_vec();
-    let runs = match runs(bits, max_level, payload) {
+    let runs = match runs {
         Ok(runs) => runs,
         Err(number) => return (number, left),
     };

@@ -6,7 +6,7 @@ use oracle::Outcome::{Answer, Panicked, Refused};
 use oracle::dice::Dice;
 use oracle::runs::{Coding, MOST_POINTS, refusal_for};
 
-use crate::tally::{Tally, Verdict};
+use crate::tally::{Asked, Tally, Verdict};
 use crate::words;
 
 pub struct Input {
@@ -38,7 +38,7 @@ impl Input {
 
 type Levels = Result<Vec<u16>, u32>;
 
-/// Ours against the Rust; where the Rust is no judge, against document 01 as `runs` has it.
+/// Ours against the Rust; where the Rust is no judge, against the documents as `runs` has them.
 pub fn judge(input: &Input) -> Verdict {
     let Input { coding, declared, payload } = input;
     let (Coding { bits, max_level }, declared) = (*coding, *declared);
@@ -47,6 +47,14 @@ pub fn judge(input: &Input) -> Verdict {
         return outside("b or M that is refused with 5", ours, Err(5));
     }
     let runs = coding.runs(payload);
+    let document = coding.declared_runs(declared, payload).answer(declared);
+    if coding.leaves_padding(declared, payload) && runs.weights_fit {
+        // What is left out is just what differs: the Rust reads the padding, and has more points than are declared.
+        return match oracle::run_length(bits, max_level, declared as usize, payload) {
+            Refused(said) if refusal_for(&said) == Some(9) => outside("padding that is not read", ours, document),
+            other => Verdict::Different(format!("the Rust has to refuse the padding: {other:?}")),
+        };
+    }
     let no_judge = if declared > MOST_POINTS {
         Some("declared count above 4,194,304")
     } else if runs.points() > u64::from(MOST_POINTS) {
@@ -57,7 +65,7 @@ pub fn judge(input: &Input) -> Verdict {
         None
     };
     if let Some(reason) = no_judge {
-        return outside(reason, ours, runs.answer(declared));
+        return outside(reason, ours, document);
     }
     match oracle::run_length(bits, max_level, declared as usize, payload) {
         Answer(levels) if ours.as_ref() == Ok(&levels) => Verdict::Accepted,
@@ -67,12 +75,12 @@ pub fn judge(input: &Input) -> Verdict {
             Some(number) => different(ours, "the Rust", Err(number)),
             None => Verdict::Different(format!("the Rust says {said}")),
         },
-        Panicked => outside("the Rust panics", ours, runs.answer(declared)),
+        Panicked => outside("the Rust panics", ours, document),
     }
 }
 
 fn outside(reason: &'static str, ours: Levels, document: Levels) -> Verdict {
-    if ours == document { Verdict::Outside(reason) } else { different(ours, "document 01", document) }
+    if ours == document { Verdict::Outside(reason) } else { different(ours, "the documents", document) }
 }
 
 fn different(ours: Levels, judge: &str, right: Levels) -> Verdict {
@@ -93,6 +101,7 @@ pub fn compare(scale: u64) -> Tally {
     comparison.made();
     comparison.chains();
     comparison.limits();
+    comparison.padding();
     comparison.tally
 }
 
@@ -108,19 +117,27 @@ impl Comparison {
         self.tally.count(&input, judge(&input));
     }
 
-    /// The declared count as it should be, one more and one less. A repeat for the first code has no count.
+    /// The declared count as it should be, one more and one less; and where that leaves padding unread, still less, as far
+    /// as the first count that does not. A repeat for the first code has no count.
     fn about_the_count(&mut self, coding: Coding, payload: &[u8]) {
         let points = count(coding, payload);
         self.one(coding, points, payload);
         if points > 0 {
             self.one(coding, points.saturating_add(1), payload);
-            self.one(coding, points - 1, payload);
+            let mut less = points - 1;
+            self.one(coding, less, payload);
+            // None declared never leaves padding: before the first code there is a whole octet.
+            while coding.leaves_padding(less, payload) {
+                less -= 1;
+                self.one(coding, less, payload);
+            }
         }
     }
 
     /// Every payload of up to two octets. From b 9 on two octets hold one code, so two M are enough there.
     fn short(&mut self) {
-        self.tally.stage("short, every one", 1_000_000);
+        let asked = Asked { accepted: 1_000_000, refused: 1_000_000, outside: 200_000 };
+        self.tally.stage_asking("short, every one", asked);
         for coding in Coding::all_to_try(&mut self.dice) {
             self.about_the_count(coding, &[]);
             self.one(coding, 1, &[]);
@@ -239,9 +256,31 @@ impl Comparison {
             }
         }
     }
+
+    /// Payloads that end with zero bits, for every b with which a code can be padding. Nothing else is outside the meeting
+    /// here.
+    fn padding(&mut self) {
+        self.tally.stage_asking("zero bits at the end", Asked { accepted: 10_000, refused: 10_000, outside: 10_000 });
+        for bits in 1..=7 {
+            for coding in Coding::with_bits(&mut self.dice, bits) {
+                for _ in 0..300 * self.scale {
+                    let (codes, points) = (1 + self.dice.below(40), self.dice.one_of(&[3, 30, 300]));
+                    let mut payload = coding.some_payload(&mut self.dice, codes, points);
+                    let zeros = 1 + self.dice.below(8);
+                    if let Some(last) = payload.last_mut() {
+                        *last = (u64::from(*last) >> zeros << zeros) as u8;
+                    }
+                    let runs = coding.runs(&payload);
+                    if runs.weights_fit && runs.points() <= 300 {
+                        self.about_the_count(coding, &payload);
+                    }
+                }
+            }
+        }
+    }
 }
 
-/// The true count, as far as it can be declared.
+/// The count of all codes, as far as it can be declared.
 fn count(coding: Coding, payload: &[u8]) -> u32 {
     u32::try_from(coding.runs(payload).points()).unwrap_or(u32::MAX)
 }

@@ -26,11 +26,12 @@ const WITH_A_CALL: [Operation; 4] = [
 ];
 
 /// Why the Rust is no judge, and the numbers of docs/DIFFERENCES.md that say more.
-const REASONS: [(&str, &str); 20] = [
+const REASONS: [(&str, &str); 21] = [
     ("b or M that is refused with 5", "9, 10"),
     ("a place weight beyond usize", "11"),
     ("declared count above 4,194,304", "12"),
     ("too long to run through the Rust", "12"),
+    ("padding that is not read", "37"),
     ("declared count not the map's", "15"),
     ("more points than 4,194,304", "16"),
     ("group count above 4,194,304", "17"),

@@ -9,9 +9,9 @@ pub enum Verdict {
     Accepted,
     /// Both refuse, ours with this number, which is document 01's for what the Rust says.
     Refused(u32),
-    /// Document 01 does not ask the two to meet here, for this reason; ours does as document 01 says.
+    /// The documents do not ask the two to meet here, for this reason; ours does as they say.
     Outside(&'static str),
-    /// They differ, or ours differs from document 01 where the Rust is no judge: what each says.
+    /// They differ, or ours differs from the documents where the Rust is no judge: what each says.
     Different(String),
 }
 
