@@ -38,18 +38,19 @@ unfoldable pub levelsUpTo : ℕ → ℕ → List ℕ → ℕ → List ℕ
 levelsUpTo b M payload n = levelsOf M (baseOf b M) 0 1 (codesUpTo b payload n)
 
 -- Document 02, No. 4: "once the declared count is reached, reading stops before any code where fewer than 8 bits are left, all
--- zero; else it goes on"
--- "fewer than 8 bits are left, all zero": from bit p on
+-- zero; else it goes on". First "fewer than 8 bits are left, all zero": from bit p on
 unfoldable pub onlyPadding : List ℕ → ℕ → Bool
 onlyPadding payload p =
     let bitsLeft = length payload * 8 - p in
-    ltb bitsLeft 8 && eqb (numberAt payload p bitsLeft) 0
+    ltb bitsLeft 8
+    && eqb (numberAt payload p bitsLeft) 0
 
--- "once the declared count is reached, reading stops before" code n
+-- "once the declared count is reached, reading stops before" the code behind n others. Reached is equal: with more it is 9 either
+-- way
 abbrev pub stopsBefore : ℕ → ℕ → ℕ → List ℕ → ℕ → Bool
 stopsBefore b M declared payload n = eqb (length (levelsUpTo b M payload n)) declared && onlyPadding payload (n * b)
 
--- "else it goes on": as many codes are read as stand before the first such one, or all whole ones
+-- "else it goes on": how many codes are read, those before the first such one, or all whole ones
 unfoldable pub codesRead : ℕ → ℕ → ℕ → List ℕ → ℕ
 codesRead b M declared payload = firstWhere (wholeCodes b payload) (stopsBefore b M declared payload)
 
@@ -58,7 +59,7 @@ unfoldable pub repeatsFirst : ℕ → List ℕ → Bool
 repeatsFirst M [] = false
 repeatsFirst M (code ∷ codes) = ltb M code
 
--- "Run-length: 5, 11, 9, 10.": where the first n codes are read
+-- "Run-length: 5, 11, 9, 10.": where the first n codes are read. 11 looks at the first of all, which reading never stops before.
 -- 5: "run-length b not 1 to 15 or M above 2^b − 1"
 abbrev pub runLengthRefusals : ℕ → ℕ → ℕ → List ℕ → ℕ → List ℕ → List Row
 runLengthRefusals b M declared payload n lent =

@@ -243,7 +243,7 @@ sentences =
     -- document 02, No. 4: "once the declared count is reached": one less, and one more than there is
     ∷ unrolling 4 9 3 (0x3C ∷ 0x50 ∷ []) shows refused 9 (lent 6 ∷ [])
     ∷ unrolling 4 9 6 (0x3C ∷ 0x50 ∷ []) shows refused 9 (lent 12 ∷ [])
-    -- "before any code": one payload for three counts; behind a repeat code that adds no point
+    -- "before any code": one payload for three counts; behind a level; behind a repeat code that adds no point
     ∷ unrolling 3 7 2 (0xFF ∷ 0x80 ∷ []) shows refused 9 (lent 4 ∷ [])
     ∷ unrolling 3 7 3 (0xFF ∷ 0x80 ∷ []) shows levels (7 ∷ 7 ∷ 7 ∷ [])
     ∷ unrolling 3 7 4 (0xFF ∷ 0x80 ∷ []) shows levels (7 ∷ 7 ∷ 7 ∷ 0 ∷ [])
@@ -253,18 +253,20 @@ sentences =
     -- "fewer than 8 bits": with eight it goes on, and so from b 8 on
     ∷ unrolling 4 9 2 (0x35 ∷ 0x00 ∷ []) shows refused 9 (lent 4 ∷ [])
     ∷ unrolling 4 9 3 (0x35 ∷ 0x00 ∷ []) shows levels (3 ∷ 5 ∷ 0 ∷ [])
+    ∷ unrolling 4 9 1 (0x30 ∷ 0x00 ∷ []) shows refused 9 (lent 2 ∷ [])
     ∷ unrolling 1 1 1 (0x80 ∷ []) shows levels (1 ∷ [])
-    ∷ unrolling 1 1 0 (0x00 ∷ []) shows refused 9 (lent 0 ∷ [])
+    ∷ unrolling 3 7 0 (0x00 ∷ []) shows refused 9 (lent 0 ∷ [])
     ∷ unrolling 8 255 1 (0x05 ∷ 0x00 ∷ []) shows refused 9 (lent 2 ∷ [])
-    -- "all zero": a tail short of a code too
+    -- "all zero": a tail short of a code too; bits, and not levels
     ∷ unrolling 3 7 1 (0x40 ∷ []) shows levels (2 ∷ [])
     ∷ unrolling 3 7 1 (0x41 ∷ []) shows refused 9 (lent 2 ∷ [])
     ∷ unrolling 3 7 2 (0x41 ∷ []) shows levels (2 ∷ 0 ∷ [])
-    -- the order of refusals before padding
+    ∷ unrolling 2 2 1 (0x0C ∷ []) shows refused 9 (lent 2 ∷ [])
+    -- the order of refusals where padding is left, and what lies past the levels
     ∷ unrollingIn 4 16 1 (0xC0 ∷ []) 1 shows refused 5 (lent 1 ∷ [])
     ∷ unrollingIn 4 9 1 (0xC0 ∷ []) 1 shows refused 11 (lent 1 ∷ [])
     ∷ unrollingIn 4 9 1 (0x30 ∷ []) 1 shows refused 10 (lent 1 ∷ [])
-    ∷ unrollingIn 4 9 1 (0x30 ∷ []) 2 shows levels (3 ∷ [])
+    ∷ unrollingIn 4 9 1 (0x30 ∷ []) 4 shows answered (1 ∷ []) ((0 ∷ 3 ∷ 255 ∷ 255 ∷ []) ∷ [])
     ∷ []
 
 pub all-hold : AllHold sentences

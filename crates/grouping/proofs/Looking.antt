@@ -1,6 +1,6 @@
 -- The look-ahead, which stops as soon as the comparison is decided. Assumes nothing.
 use mathlib.Core.Path.{_≡_, refl, sym, ap, _∙_}
-use mathlib.Core.Bool.{Bool, true, false, _&&_, false≢true}
+use mathlib.Core.Bool.{Bool, true, false, _&&_}
 use mathlib.Core.List.{List, [], _∷_}
 use Prim.Native.Nat.{ℕ, zero, suc, _+_, _-_, _*_, _≤_, _<_, min}
 use native.Mathlib.Nat.{add-zero, mul-zero, mul-le-mul-left}
@@ -11,6 +11,7 @@ use lib.ListN.{length, getD, take, drop}
 use lib.Seq.{slice, length-slice, getD-drop, getD-take}
 use Rattle.format.specs.Lists.{greatest, least}
 use Rattle.format.specs.Grouping.{digitsIn, bits, widthOf, cost}
+use Rattle.laws.specs.Lists.{both}
 use Rattle.laws.specs.Extremes.{least-lower, fits-width}
 use Rattle.numbers.specs.Windows.{windowOf, widenedBy}
 use Rattle.numbers.specs.declared.Window.{Window}
@@ -106,10 +107,6 @@ module _ (list : List ℕ) (end reach keep extend : ℕ) (far : reach ≤ length
           rw e (sym (le-ltb (keep + length xs * suc w) extend (omega (arith, long))))
 
 -- ---- what looking ahead answers
-
-both : (a b : Bool) → (a && b) ≡ true → (a ≡ true) × (b ≡ true)
-both true b e = (refl, e)
-both false b e = absurd (false≢true e)
 
 module _ (list : List ℕ) (k end : ℕ) {count reach : ℕ} (ec : count ≡ length list) (er : reach ≡ end + min k (count - end)) (there : end < length list) where
   pub known : {level : ℕ} → (end < level) × (level ≤ reach) × Level (slice end level list) × Stops list end level reach → Known list k end level

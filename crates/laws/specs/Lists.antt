@@ -117,13 +117,9 @@ pub either-right : (a b : Bool) → (a || b) ≡ false → b ≡ false
 either-right true b e = absurd (false≢true (sym e))
 either-right false b e = e
 
-pub both-left : (a b : Bool) → (a && b) ≡ true → a ≡ true
-both-left true b e = refl
-both-left false b e = e
-
-pub both-right : (a b : Bool) → (a && b) ≡ true → b ≡ true
-both-right true b e = e
-both-right false b e = absurd (false≢true e)
+pub both : (a b : Bool) → (a && b) ≡ true → (a ≡ true) × (b ≡ true)
+both true b e = (refl, e)
+both false b e = absurd (false≢true e)
 
 -- ---- whether f holds of one
 
@@ -202,8 +198,6 @@ module _ {A : Type 0} where
   joined-first zero f = sym (append-nil (f 0))
   joined-first (suc n) f = ap (λ (l : List A). l ++ f (suc n)) (joined-first n f) ∙ append-assoc (f 0) (joined n (λ i. f (suc i))) (f (suc n))
 
--- ---- over what is over
-
 -- ---- the first number of which f holds
 
 pub where-up-to : (n : ℕ) (f : ℕ → Bool) → firstWhere n f ≤ n
@@ -232,6 +226,8 @@ where-is zero f k l below here = omega arith
 where-is (suc n) f zero l below here = rw (here (omega arith))
 where-is (suc n) f (suc k) l below here =
     rw (below 0 (omega arith)) (ap suc (where-is n (λ i. f (suc i)) k (omega arith) (λ i m. below (suc i) (omega arith)) (λ m. here (omega arith))))
+
+-- ---- over what is over
 
 -- as much over it leaves nothing of it
 pub over-over : {A : Type 0} (xs ys lent : List A) → length xs ≡ length ys → xs over (ys over lent) ≡ xs over lent

@@ -1,17 +1,16 @@
 -- The laws of run-length maps. Assumes nothing.
 use mathlib.Core.Path.{_≡_, refl, sym, ap, _∙_}
-use mathlib.Core.Bool.{Bool, true, false, _&&_}
+use mathlib.Core.Bool.{Bool, true, false}
 use mathlib.Core.List.{List, [], _∷_, _++_, append-assoc}
 use Prim.Native.Nat.{ℕ, zero, suc, _+_, _-_, _*_, _/_, _≤_, _<_}
 use native.Mathlib.Nat.{zero-div, zero-mod}
 use native.Mathlib.Omega.{arith}
-use lib.Dec.{ltb, eqb}
+use lib.Dec.{ltb}
 use lib.ListN.{length, replicate, length-append, length-replicate, List·getD-eq-default}
 use borrow.Author.Tests.{ltb-true, ltb-false, lt-ltb, le-ltb, eq-eqb, eqb-true}
-use Rattle.format.specs.Lists.{listed}
 use Rattle.format.specs.Bits.{bitIn, bitAt, numberAt, fieldOf}
 use Rattle.format.specs.RunLength.{baseOf, levelsOf, levelsUpTo, onlyPadding}
-use Rattle.laws.specs.Lists.{both-left, both-right, listed-ext, listed-same}
+use Rattle.laws.specs.Lists.{both, listed-ext, listed-same}
 use Rattle.laws.specs.Bits.{bit-lt, number-bit, number-zero, field-add}
 
 -- ---- codes behind other codes: they go on from the level and the weight that those leave
@@ -48,7 +47,7 @@ module _ (payload : List ℕ) (p : ℕ) where
   -- "fewer than 8 bits are left, all zero": and past the payload's end there is none
   pub padding-few : onlyPadding payload p ≡ true → length payload * 8 - p < 8
   unfolding onlyPadding
-  padding-few h = ltb-true (length payload * 8 - p) 8 (both-left (ltb (length payload * 8 - p) 8) _ h)
+  padding-few h = ltb-true (length payload * 8 - p) 8 (both (ltb (length payload * 8 - p) 8) _ h .0)
 
   pub padding-zero : onlyPadding payload p ≡ true → (i : ℕ) → p ≤ i → bitAt payload i ≡ 0
   unfolding onlyPadding bitIn
@@ -57,7 +56,7 @@ module _ (payload : List ℕ) (p : ℕ) where
       by-test : (t : Bool) → ltb i (length payload * 8) ≡ t → bitAt payload i ≡ 0
       by-test true m =
           let w : ℕ = length payload * 8 - p in
-          let none : numberAt payload p w ≡ 0 = eqb-true (numberAt payload p w) 0 (both-right (ltb w 8) _ h) in
+          let none : numberAt payload p w ≡ 0 = eqb-true (numberAt payload p w) 0 (both (ltb w 8) _ h .1) in
           let here : p + (i - p) ≡ i = omega arith in
           sym (ap (bitAt payload) here) ∙ sym (number-bit (bit-lt 8 payload) p w (i - p) (omega (arith, ltb-true i (length payload * 8) m))) ∙ rw (none, zero-div, zero-mod)
       by-test false m = rw (List·getD-eq-default payload 0 {n = i / 8} (omega (arith, ltb-false i (length payload * 8) m)), zero-div, zero-mod)

@@ -38,7 +38,7 @@ rest-capped x y c room l ep ee et = rw (et, ee, ep) (rest x y c room l)
     rest : (x y c room : ℕ) → room < c → min y room - x ≡ min (min y c) room - min x c
     rest x y c room l = rw (inside y c room l) (omega arith)
 
--- nor is it a number below the cap that the count is not
+-- and a number that stops at c is equal to one below it just where it is without
 pub equal-capped : (x d c : ℕ) {p : ℕ} → d < c → p ≡ min x c → eqb p d ≡ eqb x d
 equal-capped x d c {p} l ep = by-test (eqb x d) refl
   where

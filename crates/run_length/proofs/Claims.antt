@@ -1,9 +1,9 @@
 -- The claims of document 02, No. 4. Assumes nothing.
-use mathlib.Core.Path.{_≡_, refl, sym, ap, subst, _∙_}
+use mathlib.Core.Path.{_≡_, refl, sym, ap, _∙_}
 use mathlib.Core.Logic.{_⊎_, inl, inr, ⊎-elim}
-use mathlib.Core.Bool.{Bool, true, false, _&&_}
+use mathlib.Core.Bool.{Bool, true, false}
 use mathlib.Core.List.{List, flatMap}
-use Prim.Native.Nat.{ℕ, zero, suc, _+_, _-_, _*_, _/_, _^_, _≤_, _<_}
+use Prim.Native.Nat.{ℕ, zero, suc, _-_, _*_, _/_, _^_, _≤_, _<_}
 use native.Mathlib.Nat.{div-zero}
 use native.Mathlib.Omega.{arith}
 use lib.Dec.{eqb, ltb}
@@ -18,9 +18,9 @@ use Rattle.format.specs.declared.Refusal.the-variants.{Width, Repeat, Points}
 use Rattle.format.specs.declared.Unrolled.{Unrolled}
 use Rattle.format.specs.declared.Unrolled.the-variants as unrolled
 use Rattle.laws.specs.First.{Gives, decides, leaves, tests}
-use Rattle.laws.specs.Lists.{both-left, both-right, where-up-to, where-holds, where-is}
+use Rattle.laws.specs.Lists.{both, where-up-to, where-holds, where-is}
 use Rattle.laws.specs.RunLength.{padding-few, padding-zero, zero-padding, length-padded}
-use Rattle.run_length.specs.Claims.{runLengthOfAll, NothingAcceptedChanges, PaddingLeft, Narrowed, NineNarrowed, NumberFour}
+use Rattle.run_length.specs.Claims.{runLengthOfAll, NothingAcceptedChanges, PaddingLeft, NineNarrowed, NumberFour}
 use Rattle.run_length.proofs.Codes.{whole-bits}
 
 module _ (b M declared : ℕ) (payload lent : List ℕ) where
@@ -50,6 +50,11 @@ module _ (b M declared : ℕ) (payload lent : List ℕ) where
 
   -- ---- where reading stops before a code
 
+  stopped : (n : ℕ) → stopsBefore b M declared payload n ≡ true → (length (levelsUpTo b M payload n) ≡ declared) × (onlyPadding payload (n * b) ≡ true)
+  stopped n h =
+      let p = both (eqb (length (levelsUpTo b M payload n)) declared) (onlyPadding payload (n * b)) h in
+      (eqb-true (length (levelsUpTo b M payload n)) declared (p .0), p .1)
+
   module _ (short : codesRead b M declared payload < wholeCodes b payload) where
     abbrev read : ℕ
     read = codesRead b M declared payload
@@ -59,10 +64,10 @@ module _ (b M declared : ℕ) (payload lent : List ℕ) where
     stops = where-holds (wholeCodes b payload) (stopsBefore b M declared payload) short
 
     reached : length (levelsUpTo b M payload read) ≡ declared
-    reached = eqb-true (length (levelsUpTo b M payload read)) declared (both-left (eqb (length (levelsUpTo b M payload read)) declared) (onlyPadding payload (read * b)) stops)
+    reached = stopped read stops .0
 
     padding : onlyPadding payload (read * b) ≡ true
-    padding = both-right (eqb (length (levelsUpTo b M payload read)) declared) (onlyPadding payload (read * b)) stops
+    padding = stopped read stops .1
 
     few : length payload * 8 - read * b < 8
     few = padding-few payload (read * b) padding
@@ -107,9 +112,7 @@ module _ (b M declared : ℕ) (payload lent : List ℕ) where
     earlier n l = by-test (stopsBefore b M declared payload n) refl
       where
         by-test : (t : Bool) → stopsBefore b M declared payload n ≡ t → stopsBefore b M declared payload n ≡ false
-        by-test true h =
-            let count = eqb (length (levelsUpTo b M payload n)) declared in
-            absurd (omega (arith, p .reached, eqb-true (length (levelsUpTo b M payload n)) declared (both-left count (onlyPadding payload (n * b)) h), length-padded b M payload n (p .codes) (both-right count (onlyPadding payload (n * b)) h) l))
+        by-test true h = absurd (omega (arith, p .reached, stopped n h .0, length-padded b M payload n (p .codes) (stopped n h .1) l))
         by-test false h = h
 
     read-is : codesRead b M declared payload ≡ p .codes

@@ -1,4 +1,4 @@
--- Unrolled through all codes. Assumes nothing.
+-- Unrolled through the codes that are read. Assumes nothing.
 use mathlib.Core.Path.{_≡_, refl, sym, ap, _∙_}
 use mathlib.Core.Bool.{Bool, true, false, _||_}
 use mathlib.Core.List.{List, [], _∷_, _++_, append-assoc, append-nil, flatMap}

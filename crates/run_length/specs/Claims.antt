@@ -28,7 +28,7 @@ NothingAcceptedChanges =
 
 -- ---- "Refusals: 9 is narrowed as said."
 
--- The inputs of which this is said. A whole code is among the bits that are left, so that b is 1 to 7.
+-- Exactly here the two rules differ. A whole code is among the bits that are left, so that b is 1 to 7.
 pub record PaddingLeft (b M declared : ℕ) (payload : List ℕ) : Type 0 where
   -- neither 5 nor 11 refuses, nor 9 for a count above its limit
   pub low : M ≤ 2 ^ b - 1
@@ -38,12 +38,12 @@ pub record PaddingLeft (b M declared : ℕ) (payload : List ℕ) : Type 0 where
   pub codes : ℕ
   pub another : codes < wholeCodes b payload
   pub reached : length (levelsUpTo b M payload codes) ≡ declared
-  -- "fewer than 8 bits are left, all zero"; past the payload's end there is no other
+  -- "fewer than 8 bits are left, all zero"; past the payload's end a bit is 0
   pub few : length payload * 8 - codes * b < 8
   pub none-set : (i : ℕ) → codes * b ≤ i → bitAt payload i ≡ 0
 
--- Everywhere else the two rules answer alike, 5, 11 and 10 too. There document 01's refuses with 9, and this one answers the levels
--- of those codes, or 10 where too little is lent.
+-- Where padding is left, document 01's rule refuses with 9, and this one answers the levels of those codes, or 10 where too little
+-- is lent. Everywhere else the two answer alike, 5, 11 and 10 too.
 pub record Narrowed (b M declared : ℕ) (payload lent : List ℕ) : Type 0 where
   pub elsewhere : (runLength b M declared payload lent ≡ runLengthOfAll b M declared payload lent) ⊎ PaddingLeft b M declared payload
   pub refused : PaddingLeft b M declared payload → runLengthOfAll b M declared payload lent ≡ left (unrolled.Refused Points) lent

@@ -80,7 +80,7 @@ fn digit(code: usize, greatest: usize) -> usize
     0
 }
 
-// Whether "fewer than 8 bits are left, all zero": they are the last of one octet, and do not begin it.
+// Whether "fewer than 8 bits are left, all zero": fewer than 8 lie in the last octet, and do not begin it.
 fn is_padding(payload: &[u8], octet: OctetPlace, bit: usize) -> bool
     requires { ⌜ (octet .0 < length (now payload)) × (bit ≤ 7) ⌝ }
     ensures { λ r. ⌜ r ≡ onlyPadding (now (payload .entry)) (octet .0 * 8 + bit) ⌝ }
@@ -246,6 +246,7 @@ pub fn run_length(
     if repeats_first(b, top, payload) {
         return Unrolled::Refused(Refusal::Repeat);
     }
+    // The walk counts no farther than the cap: what is declared must not be taken for a count that stopped there.
     if format::LIMIT < declared {
         return Unrolled::Refused(Refusal::Points);
     }
