@@ -5,7 +5,7 @@ mod support;
 
 use cleatmow::{run_length, run_length_into, Refusal, LEVEL_OCTETS, MOST_POINTS};
 use support::guarded;
-use support::maps::{rain, Numbers};
+use support::maps::{rain, short_payloads, Numbers};
 use support::model::run_length::{
     answer, answer_of_all_codes, call, coded, good, padding_codes, points, run, runs, Input,
 };
@@ -359,23 +359,16 @@ fn sums(counts: &[Counts]) -> [u64; 3] {
     [sum(|counts| counts.inputs), sum(|counts| counts.accepted), sum(|counts| counts.padded)]
 }
 
-/// Every payload of one octet or none, and every one of two octets whose first is one of these.
-fn short(firsts: impl Iterator<Item = u8>) -> impl Iterator<Item = Vec<u8>> {
-    let one = (0..=255).map(|octet| vec![octet]);
-    let two = firsts.flat_map(|first| (0..=255).map(move |second| vec![first, second]));
-    [vec![]].into_iter().chain(one).chain(two)
-}
-
 #[test]
 fn every_payload_of_one_octet_and_some_of_two() {
-    let counts = in_full(short([0, 0x3C, 0xFF].into_iter()));
+    let counts = in_full(short_payloads([0, 0x3C, 0xFF].into_iter()));
     assert_eq!(sums(&counts), [947_100, 31_076, 2_616]);
 }
 
 #[test]
 #[ignore = "takes most of a minute: make hostile"]
 fn every_payload_of_up_to_two_octets() {
-    let counts = in_full(short(0..=255));
+    let counts = in_full(short_payloads(0..=255));
     assert_eq!(sums(&counts), [60_792_732, 1_584_244, 147_153]);
 }
 

@@ -1,17 +1,11 @@
 //! Document 02, No. 4: "The Rust refuses the new case, so it goes into docs/DIFFERENCES.md, and demand 2's run-length runs
 //! leave such inputs out." Which inputs are left out, on every short payload, and that the Rust differs on these alone.
 
+use oracle::maps::short_payloads;
 use oracle::runs::Coding;
 
 /// Declared counts as far as this.
 const MOST: u32 = 20;
-
-/// Every payload of one octet or none, and every one of two octets whose first is one of these.
-fn short(firsts: impl Iterator<Item = u8>) -> impl Iterator<Item = Vec<u8>> {
-    let one = (0..=255).map(|octet| vec![octet]);
-    let two = firsts.flat_map(|first| (0..=255).map(move |second| vec![first, second]));
-    [vec![]].into_iter().chain(one).chain(two)
-}
 
 /// Every b up to 8, with the M at both ends and in the middle.
 fn codings() -> impl Iterator<Item = Coding> {
@@ -47,7 +41,7 @@ fn counts_before_padding(coding: Coding, payload: &[u8]) -> Vec<u64> {
 #[test]
 fn what_is_left_out() {
     let (mut inputs, mut left_out) = (0, [0; 8]);
-    for payload in short(0..=255) {
+    for payload in short_payloads(0..=255) {
         for coding in codings() {
             let all = coding.runs(&payload);
             let counts = counts_before_padding(coding, &payload);
@@ -79,7 +73,7 @@ fn the_rust_differs_there_alone() {
     use oracle::runs::refusal_for;
 
     let (mut inputs, mut differ) = (0, 0);
-    for payload in short([0, 0x3c, 0x80, 0xff].into_iter()) {
+    for payload in short_payloads([0, 0x3c, 0x80, 0xff].into_iter()) {
         for coding in codings() {
             for declared in 0..=MOST {
                 let rust = match oracle::run_length(coding.bits, coding.max_level, declared as usize, &payload) {

@@ -6,7 +6,7 @@ use Prim.Native.Nat.{ℕ, zero, suc, _+_, _-_, _≤_, _<_}
 use native.Mathlib.Nat.{not-suc-le-zero, add-zero, add-suc, zero-add, suc-add, sub-zero, zero-sub}
 use native.Mathlib.Numerals.{add-one}
 use native.Mathlib.Omega.{arith}
-use lib.ListN.{length, replicate, take, drop, set, getD, length-append, length-drop, drop-of-length-le}
+use lib.ListN.{length, replicate, take, drop, set, getD, length-append, length-drop, length-replicate, drop-of-length-le}
 use lib.Seq.{slice, take-nil, drop-cons, drop-at, set-at, append-snoc}
 use Rattle.format.specs.Lists.{listed, total, joined, anyOf, firstWhere, _over_}
 
@@ -45,6 +45,10 @@ module _ {A : Type 0} where
   unfolding listed
   listed-same zero x = refl
   listed-same (suc n) x = ap (λ (l : List A). x ∷ l) (listed-same n x)
+
+-- so many more of one
+pub length-more : {A : Type 0} (xs : List A) (n : ℕ) (x : A) → length (xs ++ replicate n x) ≡ length xs + n
+length-more xs n x = length-append xs (replicate n x) ∙ ap (λ (m : ℕ). length xs + m) (length-replicate n x)
 
 -- the first n of a list
 pub listed-front : {A : Type 0} (xs : List A) (d : A) (n : ℕ) → n ≤ length xs → listed n (λ k. getD xs k d) ≡ take n xs

@@ -6,11 +6,11 @@ use Prim.Native.Nat.{ℕ, zero, suc, _+_, _-_, _*_, _/_, _≤_, _<_}
 use native.Mathlib.Nat.{zero-div, zero-mod}
 use native.Mathlib.Omega.{arith}
 use lib.Dec.{ltb}
-use lib.ListN.{length, replicate, length-append, length-replicate, List·getD-eq-default}
+use lib.ListN.{length, replicate, List·getD-eq-default}
 use borrow.Author.Tests.{ltb-true, ltb-false, lt-ltb, le-ltb, eq-eqb, eqb-true}
 use Rattle.format.specs.Bits.{bitIn, bitAt, numberAt, fieldOf}
 use Rattle.format.specs.RunLength.{baseOf, levelsOf, levelsUpTo, onlyPadding}
-use Rattle.laws.specs.Lists.{both, listed-ext, listed-same}
+use Rattle.laws.specs.Lists.{both, listed-ext, listed-same, length-more}
 use Rattle.laws.specs.Bits.{bit-lt, number-bit, number-zero, field-add}
 
 -- ---- codes behind other codes: they go on from the level and the weight that those leave
@@ -85,6 +85,5 @@ length-padded b M payload n k h l =
     let m : ℕ = k - n in
     let e : n + m ≡ k = omega arith in
     let grown : length (levelsUpTo b M payload (n + m)) ≡ length (levelsUpTo b M payload n) + m =
-    ap length (levels-padded b M payload n m h) ∙ length-append (levelsUpTo b M payload n) (replicate m 0)
-    ∙ ap (λ (q : ℕ). length (levelsUpTo b M payload n) + q) (length-replicate m 0) in
+    ap length (levels-padded b M payload n m h) ∙ length-more (levelsUpTo b M payload n) m 0 in
     omega (arith, grown, ap (λ (q : ℕ). length (levelsUpTo b M payload q)) e)

@@ -1,10 +1,10 @@
 -- The claims of document 02, No. 4. Assumes nothing.
-use mathlib.Core.Path.{_≡_, refl, sym, ap, _∙_}
+use mathlib.Core.Path.{_≡_, refl, sym, ap, subst, _∙_}
 use mathlib.Core.Logic.{_⊎_, inl, inr, ⊎-elim}
 use mathlib.Core.Bool.{Bool, true, false}
-use mathlib.Core.List.{List, flatMap}
+use mathlib.Core.List.{List, [], flatMap}
 use Prim.Native.Nat.{ℕ, zero, suc, _-_, _*_, _/_, _^_, _≤_, _<_}
-use native.Mathlib.Nat.{div-zero}
+use native.Mathlib.Nat.{div-zero, pos-of-div-pos, zero-mul}
 use native.Mathlib.Omega.{arith}
 use lib.Dec.{eqb, ltb}
 use lib.ListN.{length}
@@ -20,7 +20,7 @@ use Rattle.format.specs.declared.Unrolled.the-variants as unrolled
 use Rattle.laws.specs.First.{Gives, decides, leaves, tests}
 use Rattle.laws.specs.Lists.{both, where-up-to, where-holds, where-is}
 use Rattle.laws.specs.RunLength.{padding-few, padding-zero, zero-padding, length-padded}
-use Rattle.run_length.specs.Claims.{runLengthOfAll, NothingAcceptedChanges, PaddingLeft, NineNarrowed, NumberFour}
+use Rattle.run_length.specs.Claims.{runLengthOfAll, NothingAcceptedChanges, PaddingLeft, NineNarrowed, FirstIsRead, NumberFour}
 use Rattle.run_length.proofs.Codes.{whole-bits}
 
 module _ (b M declared : ℕ) (payload lent : List ℕ) where
@@ -152,5 +152,17 @@ nothing-accepted-changes b M declared payload lent count e =
     (λ p. absurd (omega (arith, ap unrolledNumber (sym (ap (λ (l : Left Unrolled). l .answer) (refused b M declared payload lent p)) ∙ e))))
     (elsewhere b M declared payload lent)
 
+-- before it there are eight bits and more
+first-is-read : FirstIsRead
+unfolding codesRead
+first-is-read b M declared payload h = by-number (codesRead b M declared payload) refl
+  where
+    by-number : (n : ℕ) → codesRead b M declared payload ≡ n → 0 < n
+    by-number zero e =
+        let short : codesRead b M declared payload < wholeCodes b payload = omega arith in
+        let left : length payload * 8 - 0 * b < 8 = subst (λ (n : ℕ). length payload * 8 - n * b < 8) e (few b M declared payload [] short) in
+        absurd (omega (arith, zero-mul b, pos-of-div-pos {n = length payload * 8} b h))
+    by-number (suc n) e = omega arith
+
 pub number-four : NumberFour
-number-four = (nothing-accepted-changes, nine-narrowed)
+number-four = (nothing-accepted-changes, nine-narrowed, first-is-read)

@@ -27,6 +27,11 @@ accepted-earlier : (unrollingAll 1 0 1 (0x00 ∷ []) ≡ refused 9 (lent 2 ∷ [
 unfolding listed firstWhere flatMap first bitIn numberOf levelsOf levelsUpTo onlyPadding codesRead repeatsFirst runLengthUpTo
 accepted-earlier = (refl, refl)
 
+-- the first code: where there is none, none is read
+first-is-read : codesRead 1 0 0 [] ≡ 0
+unfolding firstWhere codesRead
+first-is-read = refl
+
 -- ---- the premises of `PaddingLeft`, for n codes
 
 abbrev Low : ℕ → ℕ → Type 0

@@ -7,7 +7,7 @@ use native.Mathlib.Nat.{sub-self, sub-zero, zero-sub, zero-mul, zero-add, add-mu
 use native.Mathlib.Omega.{arith}
 use lib.Dec.{eqb, ltb}
 use borrow.Author.Tests.{ltb-false}
-use lib.ListN.{length, replicate, take, length-append, length-replicate, replicate-append-replicate}
+use lib.ListN.{length, replicate, take, length-replicate, replicate-append-replicate}
 use lib.Seq.{sets, length-sets, take-nil, take-all}
 use mir.Val.{Fits}
 use mir.Syntax.{w16, w64}
@@ -19,7 +19,7 @@ use Rattle.format.specs.RunLength.{baseOf, codesUpTo, levelsOf, levelsUpTo, sto
 use Rattle.format.specs.declared.Refusal.{Refusal}
 use Rattle.format.specs.declared.Unrolled.the-variants as unrolled
 use Rattle.laws.specs.First.{Gives, Clear, decides, clears}
-use Rattle.laws.specs.Lists.{length-listed, listed-more, either-left, either-right}
+use Rattle.laws.specs.Lists.{length-listed, length-more, listed-more, either-left, either-right}
 use Rattle.laws.specs.Stores.{sets-append, flat-append, length-flat, flat-over}
 use Rattle.run_length.specs.Runs.{cap, placeOf, Coding, Within, Waiting, meaning, Exactly, More, Unrolling, firstRun}
 use Rattle.run_length.specs.declared.Run.{Run}
@@ -136,9 +136,6 @@ module _ {b M declared : ℕ} {payload : List ℕ} {room : ℕ} {lent : List ℕ
     abbrev more : List ℕ
     more = done ++ replicate (x .count) (next .level)
 
-    length-more : length more ≡ length done + x .count
-    length-more = length-append done (replicate (x .count) (next .level)) ∙ ap (λ (q : ℕ). length done + q) (length-replicate (x .count) (next .level))
-
     -- one code more is taken
     codes-more : codesUpTo b payload (w .taken + 1) ≡ codesUpTo b payload (w .taken) ++ (numberAt payload (placeOf r) b ∷ [])
     codes-more = listed-more (w .taken) (λ k. numberAt payload (0 + k * b) b) ∙ rw (zero-add (w .taken * b), w .place)
@@ -184,7 +181,7 @@ module _ {b M declared : ℕ} {payload : List ℕ} {room : ℕ} {lent : List ℕ
       weight = x .after;
       weight-is = x .after-is;
       behind = λ codes. behind-more codes ∙ ap (λ (l : List ℕ). l ++ levelsOf M (baseOf b M) (next .level) (x .after) codes) (sym levels-more);
-      count = end-is ∙ ap (λ (q : ℕ). min q cap) (sym length-more ∙ ap length (sym levels-more));
+      count = end-is ∙ ap (λ (q : ℕ). min q cap) (sym (length-more done (x .count) (next .level)) ∙ ap length (sym levels-more));
       long = ap length e ∙ length-sets levels (points * levelSize) (flatMap levelOctets (replicate (min end room - points) (next .level))) ∙ w .long;
       there =
           e ∙ ap (λ (l : List ℕ). sets l (points * levelSize) (flatMap levelOctets (replicate (min end room - points) (next .level)))) (w .there)

@@ -10,7 +10,7 @@ use Rattle.format.specs.Lists.{_over_}
 use Rattle.format.specs.Bits.{bitAt}
 use Rattle.format.specs.Layout.{levelSize, levelOctets}
 use Rattle.format.specs.Refusals.{limit, first, roomRefusals, Left, left}
-use Rattle.format.specs.RunLength.{wholeCodes, codesUpTo, levelsUpTo, repeatsFirst, runLengthUpTo, runLength}
+use Rattle.format.specs.RunLength.{wholeCodes, codesUpTo, levelsUpTo, codesRead, repeatsFirst, runLengthUpTo, runLength}
 use Rattle.format.specs.declared.Refusal.the-variants.{Points}
 use Rattle.format.specs.declared.Unrolled.{Unrolled}
 use Rattle.format.specs.declared.Unrolled.the-variants as unrolled
@@ -54,5 +54,9 @@ pub record Narrowed (b M declared : ℕ) (payload lent : List ℕ) : Type 0 wher
 abbrev pub NineNarrowed : Type 0
 NineNarrowed = (b M declared : ℕ) (payload lent : List ℕ) → Narrowed b M declared payload lent
 
+-- 11 looks at a code that is read: whatever is declared, reading does not stop before the first.
+abbrev pub FirstIsRead : Type 0
+FirstIsRead = (b M declared : ℕ) (payload : List ℕ) → 0 < wholeCodes b payload → 0 < codesRead b M declared payload
+
 abbrev pub NumberFour : Type 0
-NumberFour = NothingAcceptedChanges × NineNarrowed
+NumberFour = NothingAcceptedChanges × NineNarrowed × FirstIsRead

@@ -18,6 +18,13 @@ pub struct RunLengthMap {
     pub levels: Vec<u16>,
 }
 
+/// Every payload of one octet or none, and every one of two octets whose first is one of these.
+pub fn short_payloads(firsts: impl Iterator<Item = u8>) -> impl Iterator<Item = Vec<u8>> {
+    let one = (0..=255).map(|octet| vec![octet]);
+    let two = firsts.flat_map(|first| (0..=255).map(move |second| vec![first, second]));
+    [vec![]].into_iter().chain(one).chain(two)
+}
+
 /// A map like a rain radar's, with codes of 8 bits and levels up to 200: dry stretches of up to 4,096 points by turns
 /// with showers, whose level changes from run to run. More than half of the runs are of one point; the longest take
 /// three repeat codes.
