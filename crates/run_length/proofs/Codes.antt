@@ -16,13 +16,13 @@ use Rattle.laws.specs.Lists.{where-is}
 -- ---- whole codes
 
 module _ (b : ℕ) (payload : List ℕ) (n : ℕ) (some : 0 < b) where
-  pub whole-there : n * b + b ≤ length payload * 8 → n < wholeCodes b payload
+  whole-there : n * b + b ≤ length payload * 8 → n < wholeCodes b payload
   whole-there h = le-div-iff-mul-le {k = b} {x = suc n} {y = length payload * 8} some .1 (omega (arith, suc-mul n b))
 
   pub whole-bits : n < wholeCodes b payload → n * b + b ≤ length payload * 8
   whole-bits h = omega (arith, suc-mul n b, le-div-iff-mul-le {k = b} {x = suc n} {y = length payload * 8} some .0 h)
 
-  pub whole-up-to : n * b ≤ length payload * 8 → n ≤ wholeCodes b payload
+  whole-up-to : n * b ≤ length payload * 8 → n ≤ wholeCodes b payload
   whole-up-to h = le-div-iff-mul-le {k = b} {x = n} {y = length payload * 8} some .1 h
 
 -- ---- padding
@@ -88,7 +88,7 @@ module _ (b M declared : ℕ) (payload : List ℕ) (n : ℕ) where
 
 module _ (b M : ℕ) (payload : List ℕ) where
   -- which is the first of however many there are
-  pub first-of : (n : ℕ) → 0 < n → ltb M (numberAt payload 0 b) ≡ repeatsFirst M (codesUpTo b payload n)
+  first-of : (n : ℕ) → 0 < n → ltb M (numberAt payload 0 b) ≡ repeatsFirst M (codesUpTo b payload n)
   unfolding repeatsFirst listed
   first-of zero h = absurd (omega arith)
   first-of (suc n) h = rw (zero-mul b)
