@@ -50,6 +50,10 @@ octetsOf bits n = listed n (λ j. numberOf (bit bits) (j * 8) 8)
 abbrev pub roundedUp : ℕ → ℕ
 roundedUp n = (n + 7) / 8
 
+-- a string of bits that starts on an octet and is padded with zeros
+abbrev pub padded : List ℕ → List ℕ
+padded string = octetsOf string (roundedUp (length string))
+
 -- "A field of n numbers at width w from starting bit s spans (s + n·w) / 8 octets, rounded up (an empty list or width 0:
 -- none)."
 unfoldable pub spanOf : ℕ → ℕ → ℕ → ℕ

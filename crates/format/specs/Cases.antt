@@ -2,7 +2,7 @@
 use Prim.Native.Nat.{ℕ, _+_}
 use mathlib.Core.Path.{_≡_, refl}
 use mathlib.Core.List.{List, [], _∷_, flatMap}
-use Rattle.format.specs.Seen.{Case, _shows_, AllHold, lent, refused, numbers, spanned, number, points, point, levels, group, packs, reading, template, unpacking, restoring, readingSection5, writingSection5, unpackingSection5, picking, pickingSection5, unrolling, packing}
+use Rattle.format.specs.Seen.{Case, _shows_, AllHold, lent, refused, numbers, spanned, number, points, point, levels, group, packs, reading, template, unpacking, restoring, readingSection5, writingSection5, unpackingSection5, picking, pickingSection5, unrolling, writingLevels, packing}
 use Rattle.format.specs.Lists.{listed, total, joined, anyOf, firstWhere, greatest, least}
 use Rattle.format.specs.Refusals.{first}
 use Rattle.format.specs.Bits.{bitIn, numberOf, spanOf, readField, writeField}
@@ -14,6 +14,7 @@ use Rattle.format.specs.Grouping.{digitsIn, bits, widthOf, endsBefore, g
 use Rattle.format.specs.Packing.{summarySize, widthCoding, gcdIn, gcd, gcdFrom, divisorUpTo, incrementOf, butLast, lengthCoding, templateOf, lengthCodes, valueString, payloadOf, packingOf, packBy}
 use Rattle.format.specs.Section5.{table, sectionSize, fieldCount, laid, at, wrongHead, readSection5, writeSection5, namedBy}
 use Rattle.format.specs.Point.{point52}
+use Rattle.format.specs.WritingRunLength.{runsFrom, runsOf, digitsUpTo, digitsOf, runCodes, levelCodes, writeRunLength}
 use Rattle.format.specs.Layout.{groupSize, inFours}
 use Rattle.format.specs.Template.{templateBy}
 use Rattle.format.specs.declared.DecodedValue.the-variants.{Missing1, Missing2}
@@ -100,10 +101,13 @@ cases =
     -- gives 3 3 3 5 0"
     ∷ unrolling 4 9 4 (0x3C ∷ 0x50 ∷ []) shows levels (3 ∷ 3 ∷ 3 ∷ 5 ∷ [])
     ∷ unrolling 4 9 5 (0x3C ∷ 0x50 ∷ []) shows levels (3 ∷ 3 ∷ 3 ∷ 5 ∷ 0 ∷ [])
+    -- document 02, No. 5: the levels of 3C B5 and of 3C 50, written
+    ∷ writingLevels 4 9 (3 ∷ 3 ∷ 3 ∷ 3 ∷ 3 ∷ 3 ∷ 3 ∷ 3 ∷ 3 ∷ 5 ∷ []) 2 shows spanned 2 (0x3C ∷ 0xB5 ∷ [])
+    ∷ writingLevels 4 9 (3 ∷ 3 ∷ 3 ∷ 5 ∷ []) 2 shows spanned 2 (0x3C ∷ 0x50 ∷ [])
     ∷ []
 
 pub all-hold : AllHold cases
-unfolding listed referenceOf total joined anyOf firstWhere greatest least flatMap first bitIn numberOf spanOf readField writeField widthsAt lengthsAt valuesAt codesOf saidBy groupWidth groupLength pointsBefore bitsBefore wrongGroup decoded pointOf pointAt pointsUpTo placesOf unpack52 descriptorsOf raised expected restored beyond points53 left53 unpack53 levelsOf levelsUpTo onlyPadding codesRead repeatsFirst runLengthUpTo digitsIn bits widthOf endsBefore groupsFrom groupsOf recordsFrom widthCoding gcdIn gcd gcdFrom divisorUpTo incrementOf butLast lengthCoding templateOf lengthCodes valueString payloadOf packingOf packBy table sectionSize fieldCount laid at wrongHead readSection5 writeSection5 namedBy point52
+unfolding listed referenceOf total joined anyOf firstWhere greatest least flatMap first bitIn numberOf spanOf readField writeField widthsAt lengthsAt valuesAt codesOf saidBy groupWidth groupLength pointsBefore bitsBefore wrongGroup decoded pointOf pointAt pointsUpTo placesOf unpack52 descriptorsOf raised expected restored beyond points53 left53 unpack53 levelsOf levelsUpTo onlyPadding codesRead repeatsFirst runLengthUpTo digitsIn bits widthOf endsBefore groupsFrom groupsOf recordsFrom widthCoding gcdIn gcd gcdFrom divisorUpTo incrementOf butLast lengthCoding templateOf lengthCodes valueString payloadOf packingOf packBy table sectionSize fieldCount laid at wrongHead readSection5 writeSection5 namedBy point52 runsFrom runsOf digitsUpTo digitsOf runCodes levelCodes writeRunLength
 all-hold = refl
 
 -- document 02, No. 1: where Section 5 has each number that unpacking takes

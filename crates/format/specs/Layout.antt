@@ -30,6 +30,9 @@ levelSize = 2
 abbrev pub levelOctets : ℕ → List ℕ
 levelOctets level = bigEndian levelSize level
 
+abbrev pub levelsIn : List ℕ → List ℕ
+levelsIn octets = fieldOf octets 0 16 (wholeOnes levelSize octets)
+
 -- "a signed 64-bit number and a mark (0 number, 1, 2) a point; a missing point holds number 0"
 abbrev pub markOf : DecodedValue → ℕ
 markOf (Normal z) = 0

@@ -10,6 +10,7 @@ pub mod Grouping
 pub mod Packing
 pub mod Section5
 pub mod Point
+pub mod WritingRunLength
 pub mod Seen
 pub mod Cases
 pub mod Sentences

@@ -5,7 +5,7 @@ use mathlib.Core.List.{List, [], _∷_, _++_, map, flatMap}
 use lib.Dec.{eqb, leb, ltb}
 use lib.ListN.{length, getD}
 use Rattle.format.specs.Lists.{greatest, least, _over_}
-use Rattle.format.specs.Bits.{roundedUp, stringOf, octetsOf}
+use Rattle.format.specs.Bits.{stringOf, padded}
 use Rattle.format.specs.Layout.{inFours, groupSize, groupOctets}
 use Rattle.format.specs.Refusals.{_gives_, first, roomRefusals}
 use Rattle.format.specs.Template.{templateNumbers}
@@ -80,10 +80,6 @@ templateOf numbers groups = record {
 }
 
 -- ---- payload
-
--- a string of bits that starts on an octet and is padded with zeros
-abbrev pub padded : List ℕ → List ℕ
-padded string = octetsOf string (roundedUp (length string))
 
 -- "The last length code is written 0."
 unfoldable pub lengthCodes : Lengths → List ℕ → List ℕ

@@ -59,15 +59,19 @@ unfoldable pub repeatsFirst : ℕ → List ℕ → Bool
 repeatsFirst M [] = false
 repeatsFirst M (code ∷ codes) = ltb M code
 
--- "Run-length: 5, 11, 9, 10.": where the first n codes are read. 11 looks at the first of all, which reading never stops before.
 -- 5: "run-length b not 1 to 15 or M above 2^b − 1"
-abbrev pub runLengthRefusals : ℕ → ℕ → ℕ → List ℕ → ℕ → List ℕ → List Row
-runLengthRefusals b M declared payload n lent =
-    (eqb b 0 gives Width
+abbrev pub codeRefusals : ℕ → ℕ → List Row
+codeRefusals b M =
+    eqb b 0 gives Width
     ∷ ltb 15 b gives Width
     ∷ ltb (2 ^ b - 1) M gives Width
-    ∷ repeatsFirst M (codesUpTo b payload (wholeCodes b payload)) gives Repeat
-    ∷ [])
+    ∷ []
+
+-- "Run-length: 5, 11, 9, 10.": where the first n codes are read. 11 looks at the first of all, which reading never stops before
+abbrev pub runLengthRefusals : ℕ → ℕ → ℕ → List ℕ → ℕ → List ℕ → List Row
+runLengthRefusals b M declared payload n lent =
+    codeRefusals b M
+    ++ (repeatsFirst M (codesUpTo b payload (wholeCodes b payload)) gives Repeat ∷ [])
     ++ countRefusals (length (levelsUpTo b M payload n)) declared
     ++ roomRefusals levelSize lent declared
 

@@ -13,6 +13,7 @@ use Rattle.format.specs.Differences.{unpack53}
 use Rattle.format.specs.Section5.{readSection5, writeSection5, unpackSection5}
 use Rattle.format.specs.Point.{point52, pointSection5}
 use Rattle.format.specs.RunLength.{runLength}
+use Rattle.format.specs.WritingRunLength.{writeRunLength}
 use Rattle.format.specs.Grouping.{groupNumbersOf}
 use Rattle.format.specs.Packing.{Packing, missingValue, summarySize, pack}
 use Rattle.format.specs.declared.Template.{Template}
@@ -107,10 +108,11 @@ abbrev spanAnswered : Stored → List ℕ
 spanAnswered (stored.Span octets) = octets .0 ∷ []
 spanAnswered (stored.Refused r) = []
 
+abbrev stores : Left Stored → Seen
+stores r = record { number = storedNumber (r .answer); answers = spanAnswered (r .answer); left = r .buffer ∷ [] }
+
 abbrev pub writing : List ℕ → ℕ → ℕ → ℕ → Seen
-writing xs start width octets =
-    let r = writeField xs start width (lent octets) in
-    record { number = storedNumber (r .answer); answers = spanAnswered (r .answer); left = r .buffer ∷ [] }
+writing xs start width octets = stores (writeField xs start width (lent octets))
 
 -- missing management, then the numbers as they are listed
 abbrev pub template : ℕ → ℕ → ℕ → ℕ → ℕ → ℕ → ℕ → ℕ → ℕ → Template
@@ -144,9 +146,7 @@ readingSection5 section5 room =
     record { number = fetchedNumber (r .answer); answers = []; left = r .buffer ∷ [] }
 
 abbrev pub writingSection5 : List ℕ → ℕ → Seen
-writingSection5 numbers room =
-    let r = writeSection5 numbers (lent room) in
-    record { number = storedNumber (r .answer); answers = spanAnswered (r .answer); left = r .buffer ∷ [] }
+writingSection5 numbers room = stores (writeSection5 numbers (lent room))
 
 abbrev pub unpackingSection5 : List ℕ → List ℕ → ℕ → Seen
 unpackingSection5 section5 payload room = unpacks (unpackSection5 section5 payload (lent room))
@@ -180,6 +180,10 @@ unrollingIn b M declared payload room = unrolls (runLength b M declared payload 
 
 abbrev pub unrolling : ℕ → ℕ → ℕ → List ℕ → Seen
 unrolling b M declared payload = unrollingIn b M declared payload (declared * levelSize)
+
+-- levels, written into so many lent octets
+abbrev pub writingLevels : ℕ → ℕ → List ℕ → ℕ → Seen
+writingLevels b M levels room = stores (writeRunLength b M levels (lent room))
 
 abbrev groupCount : Grouped → List ℕ
 groupCount (grouped.Groups count) = count ∷ []

@@ -1,12 +1,12 @@
 -- Sentences of documents 01 and 02 that no case shows: one list with one claim. Assumes nothing.
 use mathlib.Core.Path.{_≡_, refl}
-use mathlib.Core.Bool.{false}
+use mathlib.Core.Bool.{Bool, false}
 use mathlib.Core.List.{List, [], _∷_, _++_, map, flatMap}
 use Prim.Native.Nat.{ℕ, zero, suc, _+_, _^_}
 use lib.Dec.{eqb, ltb}
 use lib.ListN.{replicate, set, take, length-replicate}
 use lib.IntN.{pos, negsuc, negℤ}
-use Rattle.format.specs.Seen.{Case, _shows_, AllHold, lent, refused, answered, numbers, spanned, number, points, point, levels, group, packs, readingIn, writing, template, unpacks, unpackingIn, unpacking, restoringIn, restoring, readingSection5, writingSection5, unpackingSection5, picking, pickingSection5, locates, unrollingIn, unrolling, grouping, kindNumbers, packingIn, packing}
+use Rattle.format.specs.Seen.{Case, _shows_, AllHold, lent, refused, answered, numbers, spanned, number, points, point, levels, group, packs, readingIn, writing, template, unpacks, unpackingIn, unpacking, restoringIn, restoring, readingSection5, writingSection5, unpackingSection5, picking, pickingSection5, locates, unrollingIn, unrolling, writingLevels, grouping, kindNumbers, packingIn, packing}
 use Rattle.format.specs.Lists.{listed, total, joined, anyOf, firstWhere, greatest, least}
 use Rattle.format.specs.Refusals.{_gives_, first}
 use Rattle.format.specs.Bits.{bitIn, numberOf, spanOf, readField, writeField}
@@ -18,9 +18,10 @@ use Rattle.format.specs.Grouping.{digitsIn, bits, widthOf, endsBefore, g
 use Rattle.format.specs.Packing.{summarySize, widthCoding, gcdIn, gcd, gcdFrom, divisorUpTo, incrementOf, butLast, lengthCoding, templateOf, lengthCodes, valueString, payloadOf, packingOf, packBy}
 use Rattle.format.specs.Section5.{table, sectionSize, fieldCount, laid, at, wrongHead, readSection5, writeSection5, namedBy}
 use Rattle.format.specs.Point.{point52}
+use Rattle.format.specs.WritingRunLength.{runsFrom, runsOf, digitsUpTo, digitsOf, runCodes, levelCodes, writeRunLength, writeRunLengthRefusals}
 use Rattle.format.specs.Cases.{octets52, fields52, octets53, fields53}
 use Rattle.format.specs.Layout.{pointOctets, levelOctets, numbersIn, inFours}
-use Rattle.format.specs.declared.Refusal.the-variants.{Numbers}
+use Rattle.format.specs.declared.Refusal.the-variants.{Width, Numbers}
 use Rattle.format.specs.declared.Part.the-variants.{References, Lengths, Values}
 use Rattle.format.specs.declared.DecodedValue.the-variants.{Normal, Missing1, Missing2}
 
@@ -267,19 +268,52 @@ sentences =
     ∷ unrollingIn 4 9 1 (0xC0 ∷ []) 1 shows refused 11 (lent 1 ∷ [])
     ∷ unrollingIn 4 9 1 (0x30 ∷ []) 1 shows refused 10 (lent 1 ∷ [])
     ∷ unrollingIn 4 9 1 (0x30 ∷ []) 4 shows answered (1 ∷ []) ((0 ∷ 3 ∷ 255 ∷ 255 ∷ []) ∷ [])
+    -- document 02, No. 5: its refusals, all faults at once, then one fewer each time, and octets past the payload
+    ∷ writingLevels 0 0 (3 ∷ 10 ∷ []) 0 shows refused 5 (lent 0 ∷ [])
+    ∷ writingLevels 16 9 (3 ∷ 10 ∷ []) 0 shows refused 5 (lent 0 ∷ [])
+    ∷ writingLevels 4 16 (3 ∷ 17 ∷ []) 0 shows refused 5 (lent 0 ∷ [])
+    ∷ writingLevels 4 9 (3 ∷ 10 ∷ []) 0 shows refused 13 (lent 0 ∷ [])
+    ∷ writingLevels 4 9 (3 ∷ 9 ∷ 0 ∷ []) 1 shows refused 10 (lent 1 ∷ [])
+    ∷ writingLevels 4 9 (3 ∷ 9 ∷ 0 ∷ []) 2 shows spanned 2 (0x39 ∷ 0x00 ∷ [])
+    ∷ writingLevels 4 9 (3 ∷ 9 ∷ 0 ∷ []) 3 shows spanned 2 (0x39 ∷ 0x00 ∷ 255 ∷ [])
+    -- "An empty list writes nothing.", and 5 is tested all the same
+    ∷ writingLevels 4 9 [] 0 shows spanned 0 []
+    ∷ writingLevels 4 9 [] 1 shows spanned 0 (255 ∷ [])
+    ∷ writingLevels 4 16 [] 1 shows refused 5 (lent 1 ∷ [])
+    -- "least first, no leading zero digit at the top": base 6, one digit and two; base 2, a run of one to a run of five
+    ∷ writingLevels 4 9 (replicate 6 3) 1 shows spanned 1 (0x3F ∷ [])
+    ∷ writingLevels 4 9 (replicate 7 3) 2 shows spanned 2 (0x3A ∷ 0xB0 ∷ [])
+    ∷ writingLevels 2 1 (1 ∷ 0 ∷ 0 ∷ []) 1 shows spanned 1 (0x4C ∷ [])
+    ∷ writingLevels 2 1 (replicate 3 0) 1 shows spanned 1 (0x2C ∷ [])
+    ∷ writingLevels 2 1 (replicate 4 0) 1 shows spanned 1 (0x3C ∷ [])
+    ∷ writingLevels 2 1 (replicate 5 0) 1 shows spanned 1 (0x2B ∷ [])
+    -- "Where the base is below 2, a run repeats its level instead.": base 1, base 0, and the greatest level
+    ∷ writingLevels 4 14 (3 ∷ 3 ∷ 3 ∷ []) 2 shows spanned 2 (0x33 ∷ 0x30 ∷ [])
+    ∷ writingLevels 4 15 (15 ∷ 15 ∷ 3 ∷ []) 2 shows spanned 2 (0xFF ∷ 0x30 ∷ [])
+    -- "each longest run": a level that comes again is a run of its own
+    ∷ writingLevels 4 9 (3 ∷ 5 ∷ 5 ∷ 3 ∷ 3 ∷ []) 3 shows spanned 3 (0x35 ∷ 0xB3 ∷ 0xB0 ∷ [])
+    -- "Pad with zero bits.", of codes of 15 bits too
+    ∷ writingLevels 15 32767 (32767 ∷ 1 ∷ []) 4 shows spanned 4 (0xFF ∷ 0xFE ∷ 0x00 ∷ 0x04 ∷ [])
+    ∷ writingLevels 3 7 (7 ∷ []) 1 shows spanned 1 (0xE0 ∷ [])
     ∷ []
 
 pub all-hold : AllHold sentences
-unfolding listed referenceOf total joined anyOf firstWhere greatest least flatMap first bitIn numberOf spanOf readField writeField widthsAt lengthsAt valuesAt codesOf saidBy groupWidth groupLength pointsBefore bitsBefore wrongGroup decoded pointOf pointAt pointsUpTo placesOf locate52 unpack52 descriptorsOf raised expected restored beyond points53 locate53 left53 unpack53 levelsOf levelsUpTo onlyPadding codesRead repeatsFirst runLengthUpTo digitsIn bits widthOf endsBefore groupsFrom groupsOf recordsFrom groupNumbersOf widthCoding gcdIn gcd gcdFrom divisorUpTo incrementOf butLast lengthCoding templateOf lengthCodes valueString payloadOf packingOf packBy table sectionSize fieldCount laid at wrongHead readSection5 writeSection5 namedBy point52
+unfolding listed referenceOf total joined anyOf firstWhere greatest least flatMap first bitIn numberOf spanOf readField writeField widthsAt lengthsAt valuesAt codesOf saidBy groupWidth groupLength pointsBefore bitsBefore wrongGroup decoded pointOf pointAt pointsUpTo placesOf locate52 unpack52 descriptorsOf raised expected restored beyond points53 locate53 left53 unpack53 levelsOf levelsUpTo onlyPadding codesRead repeatsFirst runLengthUpTo digitsIn bits widthOf endsBefore groupsFrom groupsOf recordsFrom groupNumbersOf widthCoding gcdIn gcd gcdFrom divisorUpTo incrementOf butLast lengthCoding templateOf lengthCodes valueString payloadOf packingOf packBy table sectionSize fieldCount laid at wrongHead readSection5 writeSection5 namedBy point52 runsFrom runsOf digitsUpTo digitsOf runCodes levelCodes writeRunLength
 all-hold = refl
 
 -- 13: "above 4,194,304 numbers" is too long a list to compute. The rows that n zeros meet with lookahead 1, whatever n is:
-zeros-small : (n : ℕ) → anyOf (ltb 2147483647) (replicate n 0) ≡ false
+zeros-small : (test : ℕ → Bool) → test 0 ≡ false → (n : ℕ) → anyOf test (replicate n 0) ≡ false
 unfolding anyOf
-zeros-small zero = refl
-zeros-small (suc n) = zeros-small n
+zeros-small test h zero = refl
+zeros-small test h (suc n) = rw h (zeros-small test h n)
 
 pub rows-of-zeros : (n : ℕ) →
     numberRefusals 1 (replicate n 0)
     ≡ (eqb n 0 gives Numbers ∷ ltb 4194304 n gives Numbers ∷ false gives Numbers ∷ false gives Numbers ∷ false gives Numbers ∷ [])
-rows-of-zeros n = simp (length-replicate {A = ℕ} n 0, zeros-small n)
+rows-of-zeros n = simp (length-replicate {A = ℕ} n 0, zeros-small (ltb 2147483647) refl n)
+
+-- and those that n levels of 0 meet when they are written, before 10
+pub rows-of-levels : (n : ℕ) →
+    take 5 (writeRunLengthRefusals 8 200 (replicate n 0) [])
+    ≡ (false gives Width ∷ false gives Width ∷ false gives Width ∷ false gives Numbers ∷ ltb 4194304 n gives Numbers ∷ [])
+rows-of-levels n = simp (length-replicate {A = ℕ} n 0, zeros-small (ltb 200) refl n)

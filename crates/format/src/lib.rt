@@ -132,6 +132,12 @@ pub enum Unrolled {
     Refused(Refusal),
 }
 
+// Document 02, No. 5: a run of one level, and its length.
+pub struct LevelRun {
+    pub level: usize,
+    pub length: usize,
+}
+
 // "a lent list of groups, four numbers each: start, length, least number, width"
 pub struct Group {
     pub start: u32,

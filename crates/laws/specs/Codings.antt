@@ -9,12 +9,12 @@ use borrow.Author.Tests.{eqb-true, eqb-false}
 use lib.Dec.{eqb}
 use lib.ListN.{length, getD, length-append}
 use Rattle.format.specs.Lists.{greatest, least}
-use Rattle.format.specs.Bits.{stringOf, spanOf}
+use Rattle.format.specs.Bits.{stringOf, padded, spanOf}
 use Rattle.format.specs.Refusals.{limit}
 use Rattle.format.specs.Template.{widthsAt, lengthsAt, valuesAt}
 use Rattle.format.specs.Grouping.{digitsIn, bits, widthOf}
 use Rattle.format.specs.Unpacking.{Codes, groupWidth, groupLength, placesOf}
-use Rattle.format.specs.Packing.{butLast, gcdFrom, incrementOf, widthCoding, lengthCoding, templateOf, padded, lengthCodes, valueString, payloadOf}
+use Rattle.format.specs.Packing.{butLast, gcdFrom, incrementOf, widthCoding, lengthCoding, templateOf, lengthCodes, valueString, payloadOf}
 use Rattle.format.specs.declared.Lengths.{Lengths}
 use Rattle.format.specs.declared.Template.{Template}
 use Rattle.laws.specs.Lists.{length-map, map-at}

@@ -7,8 +7,7 @@ use native.Mathlib.Omega.{arith}
 use lib.ListN.{length, getD, take, drop, length-append, List·getD-append}
 use lib.Seq.{ext-getD, getD-append-add, take-suc}
 use Rattle.format.specs.Lists.{total}
-use Rattle.format.specs.Bits.{bitIn, bitAt, numberAt, fieldOf, bit, stringOf, roundedUp}
-use Rattle.format.specs.Packing.{padded}
+use Rattle.format.specs.Bits.{bitIn, bitAt, numberAt, fieldOf, bit, stringOf, roundedUp, padded}
 use Rattle.laws.specs.Lists.{length-listed, getD-listed}
 use Rattle.laws.specs.Bits.{Bits, bit-listed, number-ext}
 use Rattle.laws.specs.Strings.{bits-append, bits-string, length-string, length-padded, number-own}

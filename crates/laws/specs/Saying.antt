@@ -6,10 +6,9 @@ use native.Mathlib.Omega.{arith}
 use lib.ListN.{length, getD, length-append}
 use lib.Seq.{take-all}
 use Rattle.format.specs.Lists.{total}
-use Rattle.format.specs.Bits.{fieldOf, stringOf, roundedUp, spanOf}
+use Rattle.format.specs.Bits.{fieldOf, stringOf, roundedUp, padded, spanOf}
 use Rattle.format.specs.Template.{widthsAt, lengthsAt, valuesAt}
 use Rattle.format.specs.Unpacking.{Codes, codesOf, groupWidth, groupLength, bitsBefore, saidBy}
-use Rattle.format.specs.Packing.{padded}
 use Rattle.format.specs.declared.Template.{Template}
 use Rattle.laws.specs.Lists.{listed-ext, listed-map, total-ext}
 use Rattle.laws.specs.Spans.{span-aligned}

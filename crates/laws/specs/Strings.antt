@@ -7,8 +7,7 @@ use native.Mathlib.Omega.{arith}
 use lib.ListN.{length, getD, length-append, List·getD-append, List·getD-eq-default}
 use lib.Seq.{getD-append-add}
 use Rattle.format.specs.Lists.{listed}
-use Rattle.format.specs.Bits.{bitIn, numberOf, bit, stringOf, octetsOf, roundedUp}
-use Rattle.format.specs.Packing.{padded}
+use Rattle.format.specs.Bits.{bitIn, numberOf, bit, stringOf, octetsOf, roundedUp, padded}
 use Rattle.laws.specs.Lists.{length-listed, getD-listed, listed-ext, listed-add}
 use Rattle.laws.specs.Bits.{Bits, bit-lt, number-ext, number-in, number-zero}
 

@@ -40,6 +40,13 @@ pub fn store_level(octets: &mut [u8], k: usize, level: u16)
     store(octets, k * LEVEL_SIZE, level as u64, LEVEL_SIZE);
 }
 
+pub fn level_in(octets: &[u8], k: usize) -> u32
+    requires { ⌜ (k + 1) * levelSize ≤ length (now octets) ⌝ }
+    ensures { λ r. ⌜ r ≡ numberAt (now (octets .entry)) (k * 16) 16 ⌝ }
+{
+    stream::read_two(octets, OctetPlace(k * LEVEL_SIZE))
+}
+
 // Number k of those that take four octets each.
 pub fn store_number(octets: &mut [u8], k: usize, number: u32)
     requires { ⌜ (k + 1) * numberSize ≤ length (now octets) ⌝ }

@@ -1,15 +1,17 @@
 // Run-length, template 7.200: codes are levels, or repeat the last level in digits of a base.
 ghost use mathlib.Core.Path.{_≡_};
-ghost use mathlib.Core.Bool.{cond, _||_, _&&_};
+ghost use mathlib.Core.Bool.{true, false, cond, _||_, _&&_};
 ghost use mathlib.Core.List.{flatMap};
 ghost use Prim.Native.Nat.{_+_, _-_, _*_, _/_, _<_, _≤_, _^_, min};
 ghost use lib.Dec.{ltb};
 ghost use lib.ListN.{length, replicate};
 ghost use lib.Seq.{sets};
-ghost use Rattle.format.specs.Refusals.{limit, left};
+ghost use Rattle.format.specs.Refusals.{limit, refusalNumber, left};
 ghost use Rattle.format.specs.Bits.{numberAt};
 ghost use Rattle.format.specs.Layout.{levelSize, levelOctets};
-ghost use Rattle.format.specs.RunLength.{wholeCodes, codesUpTo, onlyPadding, repeatsFirst, runLength};
+ghost use Rattle.format.specs.RunLength.{wholeCodes, codesUpTo, onlyPadding, repeatsFirst, codeRefusals, runLength};
+ghost use Rattle.format.specs.declared.Refusal.the-variants.{Width};
+ghost use Rattle.laws.specs.First.{Gives, Clear};
 ghost use Rattle.run_length.specs.Runs.{cap, placeOf, Coding, Waiting, meaning, Unrolling, firstRun};
 use format::BitPlace;
 use format::OctetPlace;
@@ -137,7 +139,7 @@ fn taken(bits: usize, greatest: usize, payload: &[u8], run: Run) -> Turn
 }
 
 // The greatest code of b bits, 2^b − 1.
-fn greatest_code(bits: usize) -> usize
+pub fn greatest_code(bits: usize) -> usize
     requires { ⌜ bits ≤ 15 ⌝ }
     ensures { λ r. ⌜ (r ≡ 2 ^ bits - 1) × (r < 2 ^ 15) ⌝ }
 {
@@ -221,6 +223,13 @@ fn repeats_first(bits: usize, greatest: usize, payload: &[u8]) -> bool
     greatest < (stream::read_number(payload, BitPlace(0), bits) as usize)
 }
 
+// 5: "run-length b not 1 to 15 or M above 2^b − 1".
+pub fn is_uncoded(bits: u8, greatest: u16) -> bool
+    ensures { λ r. ⌜ (r ≡ true → Gives (refusalNumber Width) (codeRefusals bits greatest)) × (r ≡ false → Clear (codeRefusals bits greatest)) ⌝ }
+{
+    bits == 0 || 15 < bits || greatest_code(bits as usize) < (greatest as usize)
+}
+
 // The levels of a run-length payload, in lent octets, two octets each.
 pub fn run_length(
     bits: u8,
@@ -234,13 +243,7 @@ pub fn run_length(
     let b = bits as usize;
     let top = greatest as usize;
     let count = declared as usize;
-    if b == 0 {
-        return Unrolled::Refused(Refusal::Width);
-    }
-    if 15 < b {
-        return Unrolled::Refused(Refusal::Width);
-    }
-    if greatest_code(b) < top {
+    if is_uncoded(bits, greatest) {
         return Unrolled::Refused(Refusal::Width);
     }
     if repeats_first(b, top, payload) {

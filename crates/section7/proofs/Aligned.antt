@@ -7,8 +7,7 @@ use native.Mathlib.Omega.{arith}
 use lib.ListN.{length, getD, take, drop, length-append, take-append-drop}
 use lib.Seq.{sets, sets-eq, ext-getD, getD-take, length-take-le, getD-append-add}
 use Rattle.format.specs.Lists.{listed, _over_}
-use Rattle.format.specs.Bits.{bitAt, numberOf, bit, stringOf, octetsOf, roundedUp}
-use Rattle.format.specs.Packing.{padded}
+use Rattle.format.specs.Bits.{bitAt, numberOf, bit, stringOf, octetsOf, roundedUp, padded}
 use Rattle.format.specs.declared.OctetPlace.{OctetPlace}
 use Rattle.laws.specs.Lists.{length-listed, getD-listed, listed-ext, listed-add}
 use Rattle.laws.specs.Bits.{bit-lt, number-ext, octet}

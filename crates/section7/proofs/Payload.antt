@@ -7,12 +7,12 @@ use native.Mathlib.Omega.{arith}
 use lib.ListN.{length, length-append}
 use lib.Seq.{sets}
 use Rattle.format.specs.Lists.{listed, total, least, _over_}
-use Rattle.format.specs.Bits.{stringOf, roundedUp}
+use Rattle.format.specs.Bits.{stringOf, roundedUp, padded}
 use Rattle.format.specs.Refusals.{left}
 use Rattle.format.specs.Template.{widthsAt, lengthsAt, valuesAt}
 use Rattle.format.specs.Grouping.{widthOf}
 use Rattle.format.specs.Unpacking.{placesOf}
-use Rattle.format.specs.Packing.{padded, butLast, lengthCodes, valueString, templateOf, payloadOf}
+use Rattle.format.specs.Packing.{butLast, lengthCodes, valueString, templateOf, payloadOf}
 use Rattle.format.specs.declared.Places.{Places}
 use Rattle.format.specs.declared.Refusal.the-variants.{Room}
 use Rattle.format.specs.declared.Stored.the-variants as stored

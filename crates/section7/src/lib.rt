@@ -5,11 +5,11 @@ ghost use Prim.Native.Nat.{_+_, _*_, _-_, _<_, _≤_};
 ghost use lib.ListN.{length};
 ghost use lib.Seq.{sets};
 ghost use Rattle.format.specs.Lists.{total, _over_};
-ghost use Rattle.format.specs.Bits.{stringOf, roundedUp};
+ghost use Rattle.format.specs.Bits.{stringOf, roundedUp, padded};
 ghost use Rattle.format.specs.Layout.{numbersIn};
 ghost use Rattle.format.specs.Refusals.{limit, left};
 ghost use Rattle.format.specs.Unpacking.{placesOf};
-ghost use Rattle.format.specs.Packing.{padded, valueString, templateOf, payloadOf};
+ghost use Rattle.format.specs.Packing.{valueString, templateOf, payloadOf};
 ghost use Rattle.laws.specs.Groups.{groupIn, groupsIn, ownNumbers, ownGroups, RecordOf, Sound};
 ghost use Rattle.writer.specs.Pen.{Ready, Moved};
 ghost use Rattle.numbers.specs.Records.{codedNumber};
@@ -40,16 +40,6 @@ fn code_of(coding: FieldCoding, group: Group) -> u64
     places::grown((number - coding.reference) / coding.increment)
 }
 
-fn pen_at(place: OctetPlace) -> Pen
-    ensures { λ r. ⌜ r ≡ record { place = place; number = 0; pending = 0 } ⌝ }
-{
-    Pen {
-        place,
-        number: 0,
-        pending: 0,
-    }
-}
-
 // The codes of the first groups, from an octet on.
 fn put_codes(
     coding: FieldCoding,
@@ -61,7 +51,7 @@ fn put_codes(
     requires { ⌜ Codable coding (now groups) count × (0 < coding .bits) × (place .0 + roundedUp (count * coding .bits) ≤ length (now payload)) ⌝ }
     ensures { λ r. ⌜ Begun place (stringOf (coding .bits) (codesBy coding (groupsIn (now (groups .entry)) count))) (now (payload .entry)) (now (payload .exit)) r ⌝ }
 {
-    let mut here = pen_at(place);
+    let mut here = writer::pen_at(place);
     let mut k = 0usize;
     while k < count {
         let code = code_of(coding, layout::group_in(groups, k));
@@ -152,7 +142,7 @@ fn put_values(
     requires { ⌜ Sound (numbersIn (now numbers)) (now groups) count × (place .0 + roundedUp (total count (λ k. groupBits (groupIn (now groups) k))) ≤ length (now payload)) ⌝ }
     ensures { λ r. ⌜ Begun place (valueString (ownGroups (numbersIn (now (numbers .entry))) (groupsIn (now (groups .entry)) count))) (now (payload .entry)) (now (payload .exit)) r ⌝ }
 {
-    let mut here = pen_at(place);
+    let mut here = writer::pen_at(place);
     let mut k = 0usize;
     while k < count {
         here = put_group(numbers, layout::group_in(groups, k), here, payload);

@@ -149,6 +149,22 @@ pub fn read_four(octets: &[u8], place: OctetPlace) -> u32
     read_gathered(four_there(octets, place), 4, 0, 32)
 }
 
+fn two_there(octets: &[u8], place: OctetPlace) -> u64
+    requires { ⌜ place .0 + 2 ≤ length (now octets) ⌝ }
+    ensures { λ r. ⌜ r ≡ gathered (now (octets .entry)) (place .0) 2 ⌝ }
+{
+    let at = place.0;
+    joined(octets[at + 1], octets[at], 0, 0, 0, 0, 0, 0)
+}
+
+// And one of two.
+pub fn read_two(octets: &[u8], place: OctetPlace) -> u32
+    requires { ⌜ place .0 + 2 ≤ length (now octets) ⌝ }
+    ensures { λ r. ⌜ r ≡ numberAt (now (octets .entry)) (place .0 * 8) 16 ⌝ }
+{
+    read_gathered(two_there(octets, place), 2, 0, 16)
+}
+
 // A place in octets that lie beside it, the width of the numbers from there on, and how many of them are left.
 pub struct Cursor {
     pub place: BitPlace,

@@ -21,6 +21,17 @@ pub struct Pen {
     pub pending: usize,
 }
 
+// A pen on an octet of its own.
+pub fn pen_at(place: OctetPlace) -> Pen
+    ensures { λ r. ⌜ r ≡ record { place = place; number = 0; pending = 0 } ⌝ }
+{
+    Pen {
+        place,
+        number: 0,
+        pending: 0,
+    }
+}
+
 // A number of few bits, and k zero bits behind it.
 fn shifted(number: u64, k: usize) -> u64
     requires { ⌜ (number < 256) × (k ≤ 32) ⌝ }
