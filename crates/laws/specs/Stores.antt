@@ -9,7 +9,7 @@ use lib.ListN.{length, getD, take, drop, set, length-set, length-append, List·g
 use lib.Pow.{pow-add}
 use lib.Seq.{sets, sets-eq, getD-set-same, getD-set-other, take-at, drop-at, drop-append-add, getD-append-add}
 use Rattle.format.specs.Lists.{listed, wholeOnes, _over_}
-use Rattle.format.specs.Bits.{numberOf, numberAt}
+use Rattle.format.specs.Bits.{numberOf, numberAt, fieldOf}
 use Rattle.format.specs.Layout.{numberSize, numbersIn}
 use Rattle.laws.specs.Lists.{length-listed, getD-listed, listed-more}
 use Rattle.laws.specs.Bits.{number-octet}
@@ -125,8 +125,11 @@ module _ (octets : List ℕ) (at n x : ℕ) (there : (i : ℕ) → i < n → get
   pub number-back : numberAt octets (at * 8) (n * 8) ≡ x
   number-back = first-octets n (omega arith) ∙ rw (sub-self n, pow-zero, div-one x)
 
--- number k of those that octets hold, four each
+-- number k of those that lie end to end from the first octet on
+pub field-at : (octets : List ℕ) (w n k : ℕ) → k < n → numberAt octets (k * w) w ≡ getD (fieldOf octets 0 w n) k 0
+field-at octets w n k l =
+    ap (λ (p : ℕ). numberAt octets p w) (sym (zero-add (k * w))) ∙ sym (getD-listed n (λ i. numberAt octets (0 + i * w) w) 0 k l)
+
+-- of those that octets hold, four each
 pub number-listed : (octets : List ℕ) (k : ℕ) → k < wholeOnes numberSize octets → numberAt octets (k * 32) 32 ≡ getD (numbersIn octets) k 0
-number-listed octets k l =
-    let number : ℕ → ℕ = λ i. numberAt octets (0 + i * 32) 32 in
-    ap (λ (p : ℕ). numberAt octets p 32) (sym (zero-add (k * 32))) ∙ sym (getD-listed (wholeOnes numberSize octets) number 0 k l)
+number-listed octets k l = field-at octets 32 (wholeOnes numberSize octets) k l

@@ -10,8 +10,15 @@ use borrow.Author.Tests.{lt-ltb, le-ltb, ltb-true, ltb-false}
 use lib.ListN.{length}
 use Rattle.format.specs.Lists.{listed}
 use Rattle.format.specs.Bits.{roundedUp, numberAt}
-use Rattle.format.specs.RunLength.{wholeCodes, codesUpTo, onlyPadding, stopsBefore, codesRead, repeatsFirst}
+use Rattle.format.specs.RunLength.{wholeCodes, codesUpTo, onlyPadding, stopsBefore, codesRead, repeatsFirst, codeRefusals}
+use Rattle.laws.specs.First.{Clear, tests}
 use Rattle.laws.specs.Lists.{where-is}
+use Rattle.run_length.specs.Runs.{Coding}
+
+-- ---- bits and greatest level
+
+pub coding-clear : {b M : ℕ} → Clear (codeRefusals b M) → Coding b M
+coding-clear h = record { some = omega (arith, tests, h); few = omega (arith, tests, h); low = omega (arith, tests, h) }
 
 -- ---- whole codes
 

@@ -7,7 +7,7 @@ use native.Mathlib.Nat.{sub-self, sub-zero, zero-sub, zero-mul, zero-add, add-mu
 use native.Mathlib.Omega.{arith}
 use lib.Dec.{eqb, ltb}
 use borrow.Author.Tests.{ltb-false}
-use lib.ListN.{length, replicate, take, length-replicate, replicate-append-replicate}
+use lib.ListN.{length, replicate, take, drop, length-replicate, replicate-append-replicate}
 use lib.Seq.{sets, length-sets, take-nil, take-all}
 use mir.Val.{Fits}
 use mir.Syntax.{w16, w64}
@@ -15,10 +15,11 @@ use Rattle.format.specs.Lists.{listed, _over_}
 use Rattle.format.specs.Refusals.{Row, limit, refusalNumber, left}
 use Rattle.format.specs.Bits.{numberAt}
 use Rattle.format.specs.Layout.{levelSize, levelOctets}
-use Rattle.format.specs.RunLength.{baseOf, codesUpTo, levelsOf, levelsUpTo, stopsBefore, codesRead, runLengthRefusals, runLengthUpTo, runLength}
+use Rattle.format.specs.RunLength.{baseOf, codesUpTo, levelsOf, levelsUpTo, stopsBefore, codesRead, codeRefusals, runLengthRefusals, runLengthUpTo, runLength}
 use Rattle.format.specs.declared.Refusal.{Refusal}
+use Rattle.format.specs.declared.Refusal.the-variants.{Width}
 use Rattle.format.specs.declared.Unrolled.the-variants as unrolled
-use Rattle.laws.specs.First.{Gives, Clear, decides, clears}
+use Rattle.laws.specs.First.{Gives, Clear, gives-front, decides, clears}
 use Rattle.laws.specs.Lists.{length-listed, length-more, listed-more, either-left, either-right}
 use Rattle.laws.specs.Stores.{sets-append, flat-append, length-flat, flat-over}
 use Rattle.run_length.specs.Runs.{cap, placeOf, Coding, Within, Waiting, meaning, Exactly, More, Unrolling, firstRun}
@@ -254,6 +255,9 @@ module _ (b M declared : ℕ) (payload lent : List ℕ) where
   pub refused-behind : (r : Refusal) {levels : List ℕ} → levels ≡ lent → Gives (refusalNumber r) rows → left (unrolled.Refused r) levels ≡ runLength b M declared payload lent
   unfolding runLengthUpTo
   refused-behind r e h = ap (left (unrolled.Refused r)) e ∙ decides _ r _ _ h
+
+  pub refused-code : Gives (refusalNumber Width) (codeRefusals b M) → left (unrolled.Refused Width) lent ≡ runLength b M declared payload lent
+  refused-code h = refused-behind Width refl (gives-front (refusalNumber Width) (codeRefusals b M) (drop (length (codeRefusals b M)) rows) h)
 
   pub stored-behind : {levels : List ℕ} → levels ≡ flatMap levelOctets (levelsUpTo b M payload (codesRead b M declared payload)) over lent → Clear rows
       → left (unrolled.Levels declared) levels ≡ runLength b M declared payload lent

@@ -227,7 +227,13 @@ fn repeats_first(bits: usize, greatest: usize, payload: &[u8]) -> bool
 pub fn is_uncoded(bits: u8, greatest: u16) -> bool
     ensures { λ r. ⌜ (r ≡ true → Gives (refusalNumber Width) (codeRefusals bits greatest)) × (r ≡ false → Clear (codeRefusals bits greatest)) ⌝ }
 {
-    bits == 0 || 15 < bits || greatest_code(bits as usize) < (greatest as usize)
+    if bits == 0 {
+        return true;
+    }
+    if 15 < bits {
+        return true;
+    }
+    greatest_code(bits as usize) < (greatest as usize)
 }
 
 // The levels of a run-length payload, in lent octets, two octets each.

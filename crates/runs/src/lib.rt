@@ -1,7 +1,8 @@
 // Document 02, No. 5: levels written under template 7.200, run by run.
 ghost use mathlib.Core.Path.{_≡_};
-ghost use mathlib.Core.Bool.{false};
-ghost use Prim.Native.Nat.{_*_, _<_, _≤_};
+ghost use mathlib.Core.Bool.{true, false};
+ghost use mathlib.Core.List.{_∷_, []};
+ghost use Prim.Native.Nat.{_+_, _*_, _<_, _≤_, _^_};
 ghost use lib.Dec.{ltb};
 ghost use lib.ListN.{length, getD, replicate, drop};
 ghost use Rattle.format.specs.Lists.{anyOf};
@@ -12,7 +13,7 @@ ghost use Rattle.format.specs.RunLength.{codeRefusals};
 ghost use Rattle.format.specs.WritingRunLength.{digitsOf, runCodes, levelCodes, levelPayload, writeRunLength};
 ghost use Rattle.laws.specs.First.{Clear};
 ghost use Rattle.writer.specs.Pen.{Ready, Moved};
-ghost use Rattle.runs.specs.Runs.{startsWith, Begins, Codable, digitCodes, counted};
+ghost use Rattle.runs.specs.Runs.{startsWith, Stands, Begins, Codable, digitCodes, counted};
 use format::BitPlace;
 use format::LevelRun;
 use format::OctetPlace;
@@ -27,6 +28,9 @@ pub struct LevelCoding {
     pub base: usize,
 }
 
+// A number of sixteen bits, times this, stands four times in 64 bits.
+const FOUR_TIMES: u64 = 281479271743489;
+
 // How many levels a list has. "spare octets short of a whole one are not used"
 fn count_of(levels: &[u8]) -> usize
     ensures { λ r. ⌜ r ≡ length (levelsIn (now (levels .entry))) ⌝ }
@@ -40,6 +44,30 @@ fn level_at(levels: &[u8], k: usize) -> usize
     ensures { λ r. ⌜ r ≡ getD (levelsIn (now (levels .entry))) k 0 ⌝ }
 {
     layout::level_in(levels, k) as usize
+}
+
+// Whether a level stands at the next four places: their eight octets are compared at once. No farther than the list.
+fn four_stand(levels: &[u8], place: usize, level: usize) -> bool
+    requires { ⌜ (place ≤ length (levelsIn (now levels))) × (level < 2 ^ 16) ⌝ }
+    ensures { λ r. ⌜ (r ≡ true → Stands (levelsIn (now (levels .entry))) place level (place + 4)) ⌝ }
+{
+    if count_of(levels) < place + 4 {
+        return false;
+    }
+    let octets = stream::eight_there(levels, OctetPlace(place * format::LEVEL_SIZE));
+    octets == (level as u64) * FOUR_TIMES
+}
+
+// How far a level stands from a place on, by four places at a time.
+fn fours_from(levels: &[u8], place: usize, level: usize) -> usize
+    requires { ⌜ (place ≤ length (levelsIn (now levels))) × (level < 2 ^ 16) ⌝ }
+    ensures { λ r. ⌜ Stands (levelsIn (now (levels .entry))) place level r ⌝ }
+{
+    let mut end = place;
+    while four_stand(levels, end, level) {
+        end += 4;
+    }
+    end
 }
 
 // Whether there is another level, and it is this one.
@@ -58,7 +86,7 @@ fn run_at(levels: &[u8], place: usize) -> LevelRun
     ensures { λ r. ⌜ Begins (levelsIn (now (levels .entry))) place r ⌝ }
 {
     let level = level_at(levels, place);
-    let mut end = place + 1;
+    let mut end = fours_from(levels, place + 1, level);
     while goes_on(levels, end, level) {
         end += 1;
     }
@@ -68,18 +96,21 @@ fn run_at(levels: &[u8], place: usize) -> LevelRun
     }
 }
 
-// How many digits of the base a number has.
+// How many digits of the base a number has. One digit takes no division.
 fn digit_count(coding: LevelCoding, number: usize) -> usize
     requires { ⌜ 2 ≤ coding .base ⌝ }
     ensures { λ r. ⌜ (r ≡ length (digitsOf (coding .base) number)) × (r ≤ number) ⌝ }
 {
     let mut rest = number;
     let mut count = 0usize;
-    while 0 < rest {
+    while coding.base <= rest {
         rest /= coding.base;
         count += 1;
     }
-    count
+    if rest == 0 {
+        return count;
+    }
+    count + 1
 }
 
 // How many codes a run takes: no more than it has levels.
@@ -111,26 +142,34 @@ fn octets_of(coding: LevelCoding, levels: &[u8]) -> Stored
     Stored::Span(places::span(BitPlace(0), coding.bits, codes))
 }
 
-// "in digits of the base, least first": digit d is code M + 1 + d.
+// Digit d is code M + 1 + d.
+fn put_digit(coding: LevelCoding, digit: usize, pen: Pen, payload: &mut [u8]) -> Pen
+    requires { ⌜ Codable coding × (digit < coding .base) × Ready pen (coding .bits) (now payload) ⌝ }
+    ensures { λ r. ⌜ Moved pen (stringOf (coding .bits) ((coding .greatest + 1 + digit) ∷ [])) (now (payload .entry)) (now (payload .exit)) r ⌝ }
+{
+    writer::put(pen, (coding.greatest + 1 + digit) as u64, coding.bits, payload)
+}
+
+// "in digits of the base, least first, no leading zero digit at the top"
 fn put_digits(coding: LevelCoding, number: usize, pen: Pen, payload: &mut [u8]) -> Pen
-    requires { ⌜ Codable coding × (2 ≤ coding .base) ⌝ }
-    requires { ⌜ Ready pen (length (digitsOf (coding .base) number) * coding .bits) (now payload) ⌝ }
+    requires { ⌜ Codable coding × (2 ≤ coding .base) × Ready pen (length (digitCodes coding number) * coding .bits) (now payload) ⌝ }
     ensures { λ r. ⌜ Moved pen (stringOf (coding .bits) (digitCodes coding number)) (now (payload .entry)) (now (payload .exit)) r ⌝ }
 {
     let mut here = pen;
     let mut rest = number;
-    while 0 < rest {
-        let code = coding.greatest + 1 + rest % coding.base;
-        here = writer::put(here, code as u64, coding.bits, payload);
+    while coding.base <= rest {
+        here = put_digit(coding, rest % coding.base, here, payload);
         rest /= coding.base;
     }
-    here
+    if rest == 0 {
+        return here;
+    }
+    put_digit(coding, rest, here, payload)
 }
 
 // "a run repeats its level instead"
 fn put_repeated(coding: LevelCoding, run: LevelRun, pen: Pen, payload: &mut [u8]) -> Pen
-    requires { ⌜ Codable coding × (run .level ≤ coding .greatest) ⌝ }
-    requires { ⌜ Ready pen (run .length * coding .bits) (now payload) ⌝ }
+    requires { ⌜ Codable coding × (run .level ≤ coding .greatest) × Ready pen (length (replicate (run .length) (run .level)) * coding .bits) (now payload) ⌝ }
     ensures { λ r. ⌜ Moved pen (stringOf (coding .bits) (replicate (run .length) (run .level))) (now (payload .entry)) (now (payload .exit)) r ⌝ }
 {
     let mut here = pen;
@@ -144,8 +183,7 @@ fn put_repeated(coding: LevelCoding, run: LevelRun, pen: Pen, payload: &mut [u8]
 
 // The codes of a run.
 fn put_run(coding: LevelCoding, run: LevelRun, pen: Pen, payload: &mut [u8]) -> Pen
-    requires { ⌜ Codable coding × (run .level ≤ coding .greatest) ⌝ }
-    requires { ⌜ Ready pen (length (runCodes (coding .greatest) (coding .base) run) * coding .bits) (now payload) ⌝ }
+    requires { ⌜ Codable coding × (run .level ≤ coding .greatest) × Ready pen (length (runCodes (coding .greatest) (coding .base) run) * coding .bits) (now payload) ⌝ }
     ensures { λ r. ⌜ Moved pen (stringOf (coding .bits) (runCodes (coding .greatest) (coding .base) run)) (now (payload .entry)) (now (payload .exit)) r ⌝ }
 {
     if coding.base < 2 {

@@ -14,8 +14,15 @@ use Rattle.laws.specs.Bits.{Octets, gathered, number-read}
 -- ---- octets, spelled out
 
 module _ (octets : List ℕ) (at : ℕ) where
+  abbrev two : ℕ
+  two = getD octets at 0 * 256 + getD octets (at + 1) 0
+
   abbrev four : ℕ
-  four = ((getD octets at 0 * 256 + getD octets (at + 1) 0) * 256 + getD octets (at + 2) 0) * 256 + getD octets (at + 3) 0
+  four = (two * 256 + getD octets (at + 2) 0) * 256 + getD octets (at + 3) 0
+
+  pub two-gathered : {r : ℕ} → r ≡ two → r ≡ gathered octets at 2
+  unfolding gathered
+  two-gathered e = simp (zero-add, add-zero) e
 
   pub four-gathered : {r : ℕ} → r ≡ four → r ≡ gathered octets at 4
   unfolding gathered

@@ -97,7 +97,7 @@ pub fn read_number(octets: &[u8], place: BitPlace, width: usize) -> u32
     )
 }
 
-fn eight_there(octets: &[u8], place: OctetPlace) -> u64
+pub fn eight_there(octets: &[u8], place: OctetPlace) -> u64
     requires { ⌜ place .0 + 8 ≤ length (now octets) ⌝ }
     ensures { λ r. ⌜ r ≡ gathered (now (octets .entry)) (place .0) 8 ⌝ }
 {
