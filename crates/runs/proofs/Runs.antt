@@ -62,13 +62,13 @@ module _ {levels : List ℕ} {place : ℕ} {run : LevelRun} (b : Begins levels p
 
 -- ---- finding it
 
-pub starts-not : (level : ℕ) (levels : List ℕ) (place : ℕ) → length levels ≤ place → false ≡ startsWith level (drop place levels)
+pub starts-not : (level : ℕ) (levels : List ℕ) (place : ℕ) {count : ℕ} → count ≡ length levels → count ≤ place → false ≡ startsWith level (drop place levels)
 unfolding startsWith
-starts-not level levels place l = rw (drop-of-length-le levels {i = place} l)
+starts-not level levels place e l = rw (drop-of-length-le levels {i = place} (omega arith))
 
-pub starts-is : (level : ℕ) (levels : List ℕ) (place : ℕ) {x : ℕ} → place < length levels → x ≡ getD levels place 0 → eqb x level ≡ startsWith level (drop place levels)
+pub starts-is : (level : ℕ) (levels : List ℕ) (place : ℕ) {count x : ℕ} → count ≡ length levels → place < count → x ≡ getD levels place 0 → eqb x level ≡ startsWith level (drop place levels)
 unfolding startsWith
-starts-is level levels place l e = rw (e, drop-cons levels place 0 l)
+starts-is level levels place n l e = rw (e, drop-cons levels place 0 (omega arith))
 
 module _ {levels : List ℕ} {place level : ℕ} where
   pub stands-none : place ≤ length levels → Stands levels place level place
@@ -99,12 +99,12 @@ module _ (levels : List ℕ) (level end : ℕ) {t : Bool} (e : t ≡ startsWith 
     where
       by-test : (u : Bool) → ltb end (length levels) ≡ u → end < length levels
       by-test true m = ltb-true end (length levels) m
-      by-test false m = absurd (false≢true (starts-not level levels end (ltb-false end (length levels) m) ∙ sym e ∙ h))
+      by-test false m = absurd (false≢true (starts-not level levels end refl (ltb-false end (length levels) m) ∙ sym e ∙ h))
 
   pub stands-next : {place : ℕ} → t ≡ true → Stands levels place level end → Stands levels place level (end + 1)
   stands-next h s =
       let l : end < length levels = starts-some h in
-      stands-on s (stands-one l (sym (eqb-true (getD levels end 0) level (starts-is level levels end l refl ∙ sym e ∙ h))))
+      stands-on s (stands-one l (sym (eqb-true (getD levels end 0) level (starts-is level levels end refl l refl ∙ sym e ∙ h))))
 
   pub stands-end : {place : ℕ} → t ≡ false → place < end → Stands levels place level end → Begins levels place (record { level = level; length = end - place })
   stands-end {place} h some s =

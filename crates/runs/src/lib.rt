@@ -41,7 +41,7 @@ fn count_of(levels: &[u8]) -> usize
 // Level k of the list.
 fn level_at(levels: &[u8], k: usize) -> usize
     requires { ⌜ k < length (levelsIn (now levels)) ⌝ }
-    ensures { λ r. ⌜ r ≡ getD (levelsIn (now (levels .entry))) k 0 ⌝ }
+    ensures { λ r. ⌜ (r ≡ getD (levelsIn (now (levels .entry))) k 0) × (r < 2 ^ 16) ⌝ }
 {
     layout::level_in(levels, k) as usize
 }
