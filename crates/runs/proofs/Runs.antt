@@ -15,7 +15,7 @@ use Rattle.format.specs.Bits.{bitAt, numberAt}
 use Rattle.format.specs.Layout.{levelSize, levelsIn}
 use Rattle.format.specs.WritingRunLength.{runsFrom, runsOf}
 use Rattle.format.specs.declared.LevelRun.{LevelRun}
-use Rattle.laws.specs.Lists.{length-listed}
+use Rattle.laws.specs.Lists.{length-listed, any-none}
 use Rattle.laws.specs.Stores.{field-at}
 use Rattle.laws.specs.Bits.{Octets, gathered, gathered-bits, bit-lt, number-lt, number-add}
 use Rattle.runs.specs.Runs.{startsWith, Stands, Begins}
@@ -50,6 +50,10 @@ any-replicate f level (suc (suc n)) behind l = ap (λ (t : Bool). f level || t) 
     again true t = refl
     again false t = refl
 
+repeated-first : (level n : ℕ) (behind : List ℕ) → 0 < n → getD (replicate n level ++ behind) 0 0 ≡ level
+repeated-first level zero behind l = absurd (omega arith)
+repeated-first level (suc n) behind l = refl
+
 module _ {levels : List ℕ} {place : ℕ} {run : LevelRun} (b : Begins levels place run) where
   abbrev behind : List ℕ
   behind = drop (place + run .length) levels
@@ -59,6 +63,15 @@ module _ {levels : List ℕ} {place : ℕ} {run : LevelRun} (b : Begins levels p
 
   pub begins-any : (f : ℕ → Bool) → anyOf f (drop place levels) ≡ (f (run .level) || anyOf f behind)
   begins-any f = ap (anyOf f) (b .here) ∙ any-replicate f (run .level) (run .length) behind (b .some)
+
+  -- its level is the one at the place
+  begins-level : run .level ≡ getD levels place 0
+  begins-level =
+      sym (repeated-first (run .level) (run .length) behind (b .some))
+      ∙ ap (λ (l : List ℕ). getD l 0 0) (sym (b .here) ∙ drop-cons levels place 0 (omega (arith, b .some, b .within)))
+
+  pub begins-low : (M : ℕ) → anyOf (ltb M) levels ≡ false → run .level ≤ M
+  begins-low M h = ltb-false M (run .level) (rw begins-level (any-none (ltb M) levels 0 h place (omega (arith, b .some, b .within))))
 
 -- ---- finding it
 

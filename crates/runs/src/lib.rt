@@ -183,7 +183,7 @@ fn put_repeated(coding: LevelCoding, run: LevelRun, pen: Pen, payload: &mut [u8]
 
 // The codes of a run.
 fn put_run(coding: LevelCoding, run: LevelRun, pen: Pen, payload: &mut [u8]) -> Pen
-    requires { ⌜ Codable coding × (run .level ≤ coding .greatest) × Ready pen (length (runCodes (coding .greatest) (coding .base) run) * coding .bits) (now payload) ⌝ }
+    requires { ⌜ Codable coding × (run .level ≤ coding .greatest) × (0 < run .length) × Ready pen (length (runCodes (coding .greatest) (coding .base) run) * coding .bits) (now payload) ⌝ }
     ensures { λ r. ⌜ Moved pen (stringOf (coding .bits) (runCodes (coding .greatest) (coding .base) run)) (now (payload .entry)) (now (payload .exit)) r ⌝ }
 {
     if coding.base < 2 {

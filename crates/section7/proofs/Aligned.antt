@@ -14,7 +14,7 @@ use Rattle.laws.specs.Bits.{bit-lt, number-ext, octet}
 use Rattle.laws.specs.Strings.{bits-listed, octets-front, number-past, length-string, length-padded}
 use Rattle.writer.specs.Pen.{Held, Ready, Moved, Finished}
 use Rattle.writer.specs.declared.Pen.{Pen}
-use Rattle.writer.proofs.Pens.{moved-ready, moved-then}
+use Rattle.writer.proofs.Pens.{fresh, moved-ready, moved-then}
 use Rattle.section7.specs.Parts.{Begun}
 
 -- octets are those of their bits
@@ -35,13 +35,6 @@ octets-behind string more at n e =
     ∙ ap₂ (λ (a b : List ℕ). a ++ b) (octets-front string more at (omega arith))
     (listed-ext n _ _ (λ j l. number-ext (bit (string ++ more)) (bit more) ((at + j) * 8) (j * 8) 8
     (λ i m. ap (bit (string ++ more)) (omega arith) ∙ getD-append-add string more (j * 8 + i) 0)))
-
-abbrev fresh : OctetPlace → Pen
-fresh place = record { place = place; number = 0; pending = 0 }
-
--- a pen on an octet of its own, with room for n bits
-pub fresh-ready : {p : Pen} {place : OctetPlace} → p ≡ fresh place → (n : ℕ) {octets : List ℕ} → place .0 + roundedUp n ≤ length octets → Ready p n octets
-fresh-ready {p} {place} e n l = rw e (record { few = omega arith; small = omega arith; room = omega arith })
 
 -- no bits are no octets
 pub none-set : (w : ℕ) (xs octets : List ℕ) (at : ℕ) → w ≡ 0 → octets ≡ sets octets at (padded (stringOf w xs))

@@ -17,9 +17,9 @@ use Rattle.laws.specs.Stores.{flat-append}
 use Rattle.laws.specs.Groups.{groupIn, groupsIn, ownNumbers, ownGroups, RecordOf, Sound, length-own, value-low, value-fits, values-listed, width-upto}
 use Rattle.writer.specs.Pen.{Ready, Moved}
 use Rattle.writer.specs.declared.Pen.{Pen}
-use Rattle.writer.proofs.Pens.{moved-none, moved-then, moved-ready}
+use Rattle.writer.proofs.Pens.{fresh-ready, moved-none, moved-then, moved-ready}
 use Rattle.section7.specs.Parts.{valuesOf, groupBits, FewBits, Countable, Begun}
-use Rattle.section7.proofs.Aligned.{fresh-ready, begun}
+use Rattle.section7.proofs.Aligned.{begun}
 use Rattle.section7.proofs.Puts.{Putting, put-start, put-ready, put-end}
 
 -- ---- their bits

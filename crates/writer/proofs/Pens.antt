@@ -9,6 +9,7 @@ use lib.Pow.{pow-add, pow-mono, pow-pos}
 use lib.ListN.{length, set, length-set, length-append}
 use Rattle.format.specs.Lists.{_over_}
 use Rattle.format.specs.Bits.{numberOf, bit, stringOf, octetsOf, roundedUp}
+use Rattle.format.specs.declared.OctetPlace.{OctetPlace}
 use Rattle.laws.specs.Lists.{grown}
 use Rattle.laws.specs.Bits.{number-add, number-mid}
 use Rattle.laws.specs.Strings.{bits-append, bits-string, length-string, number-own, number-front, octets-front, number-past}
@@ -116,6 +117,14 @@ module _ {octets₀ octets : List ℕ} {at₀ number₀ pending₀ at number pen
   }
 
 -- ---- from pen to pen
+
+abbrev pub fresh : OctetPlace → Pen
+fresh place = record { place = place; number = 0; pending = 0 }
+
+-- a pen on an octet of its own, with room for n bits
+pub fresh-ready : {p : Pen} {place : OctetPlace} → p ≡ fresh place → (n : ℕ) {octets : List ℕ} → place .0 + roundedUp n ≤ length octets → Ready p n octets
+fresh-ready {p} {place} e n l = rw e (record { few = omega arith; small = omega arith; room = omega arith })
+
 
 pub moved-none : {p : Pen} {n : ℕ} {octets : List ℕ} → Ready p n octets → Moved p [] octets octets p
 moved-none r = record { few = r .few; small = r .small; place = omega arith; long = refl; held = λ string lent h. rw (append-nil string) h }

@@ -5,7 +5,7 @@ use borrow.Author.Needs.{needs}
 use Rattle.laws.specs.Groups.{groupIn}
 use Rattle.writer.specs.Pen.{Ready}
 use Rattle.section7.specs.Parts.{codeOf}
-use Rattle.section7.proofs.Aligned.{fresh-ready}
+use Rattle.writer.proofs.Pens.{fresh-ready}
 use Rattle.section7.proofs.Puts.{Putting, put-start, put-ready, put-more}
 use Rattle.section7.proofs.Codings.{code-step, code-low, code-is, code-fits, codes-begun}
 use Rattle.section7.proofs.put_codes.Statement.{statement}

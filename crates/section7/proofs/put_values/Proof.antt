@@ -8,7 +8,7 @@ use Rattle.format.specs.Packing.{valueString}
 use Rattle.laws.specs.Groups.{groupIn, groupsIn, ownGroups}
 use Rattle.writer.specs.Pen.{Ready, Moved}
 use Rattle.section7.specs.Parts.{groupBits}
-use Rattle.section7.proofs.Aligned.{fresh-ready}
+use Rattle.writer.proofs.Pens.{fresh-ready}
 use Rattle.section7.proofs.Values.{group-valued, group-few, group-ready, group-moved, values-none, values-begun}
 use Rattle.section7.proofs.put_values.Statement.{statement}
 use Rattle.section7.proofs.put_values.Tie as tie
