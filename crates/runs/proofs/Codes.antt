@@ -103,7 +103,7 @@ counting-start c levels h = record { within = omega arith; few = omega arith; al
 
 module _ {c : LevelCoding} {levels : List ℕ} {codes place : ℕ} (i : Counting c levels codes place) where
   module _ {run : LevelRun} (b : Begins levels place run) where
-    pub counting-above : c .greatest < run .level → stored.Refused Numbers ≡ counted c levels
+    pub counting-above : c .greatest < run .level → stored.Refused Numbers ≡ counted (c .bits) (c .greatest) levels
     counting-above l =
         let found : anyOf (ltb (c .greatest)) levels ≡ true =
         i .above ∙ begins-any b (ltb (c .greatest)) ∙ ap (λ (t : Bool). t || anyOf (ltb (c .greatest)) (drop (place + run .length) levels)) (lt-ltb (c .greatest) (run .level) l) in
@@ -119,7 +119,7 @@ module _ {c : LevelCoding} {levels : List ℕ} {codes place : ℕ} (i : Counting
           ∙ ap (λ (t : Bool). t || anyOf (ltb (c .greatest)) (drop (place + run .length) levels)) (le-ltb (c .greatest) (run .level) l);
     }
 
-  pub counting-end : length levels ≤ place → {octets : OctetPlace} → octets .0 ≡ spanOf 0 (c .bits) codes → stored.Span octets ≡ counted c levels
+  pub counting-end : length levels ≤ place → {octets : OctetPlace} → octets .0 ≡ spanOf 0 (c .bits) codes → stored.Span octets ≡ counted (c .bits) (c .greatest) levels
   counting-end l {octets} e =
       let none : anyOf (ltb (c .greatest)) levels ≡ false = i .above ∙ any-end (ltb (c .greatest)) levels place l in
       let size : length (levelCodes (c .bits) (c .greatest) levels) ≡ codes = omega (arith, i .all, ap length (from-end c levels l)) in

@@ -44,7 +44,6 @@ abbrev pub digitCodes : LevelCoding → ℕ → List ℕ
 digitCodes c n = map (λ digit. c .greatest + 1 + digit) (digitsOf (c .base) n)
 
 -- how many octets levels take, or 13 where one is above the greatest
-abbrev pub counted : LevelCoding → List ℕ → Stored
-counted c levels =
-    first (λ r. stored.Refused r) (anyOf (ltb (c .greatest)) levels gives Numbers ∷ [])
-    (stored.Span (record { 0 = length (levelPayload (c .bits) (c .greatest) levels) }))
+abbrev pub counted : ℕ → ℕ → List ℕ → Stored
+counted b M levels =
+    first (λ r. stored.Refused r) (anyOf (ltb M) levels gives Numbers ∷ []) (stored.Span (record { 0 = length (levelPayload b M levels) }))

@@ -12,7 +12,7 @@ ghost use Rattle.format.specs.Refusals.{limit, left};
 ghost use Rattle.format.specs.RunLength.{codeRefusals};
 ghost use Rattle.format.specs.WritingRunLength.{digitsOf, runCodes, levelCodes, levelPayload, writeRunLength};
 ghost use Rattle.laws.specs.First.{Clear};
-ghost use Rattle.writer.specs.Pen.{Ready, Moved};
+ghost use Rattle.writer.specs.Pen.{Ready, Moved, payloadLent};
 ghost use Rattle.runs.specs.Runs.{startsWith, Stands, Begins, Codable, digitCodes, counted};
 use format::BitPlace;
 use format::LevelRun;
@@ -127,7 +127,7 @@ fn code_count(coding: LevelCoding, run: LevelRun) -> usize
 // How many octets the levels take, or 13 for "a level above M".
 fn octets_of(coding: LevelCoding, levels: &[u8]) -> Stored
     requires { ⌜ Codable coding × (length (levelsIn (now levels)) ≤ limit) ⌝ }
-    ensures { λ r. ⌜ r ≡ counted coding (levelsIn (now (levels .entry))) ⌝ }
+    ensures { λ r. ⌜ r ≡ counted (coding .bits) (coding .greatest) (levelsIn (now (levels .entry))) ⌝ }
 {
     let mut codes = 0usize;
     let mut place = 0usize;
@@ -208,6 +208,23 @@ fn put_levels(coding: LevelCoding, levels: &[u8], payload: &mut [u8]) -> Pen
     here
 }
 
+// "Pad with zero bits.": the payload, which takes so many octets, or 10 where it has no room.
+fn write_levels(
+    coding: LevelCoding,
+    levels: &[u8],
+    octets: OctetPlace,
+    payload: &mut [u8],
+) -> Stored
+    requires { ⌜ Codable coding × (anyOf (ltb (coding .greatest)) (levelsIn (now levels)) ≡ false) × (octets .0 ≡ length (levelPayload (coding .bits) (coding .greatest) (levelsIn (now levels)))) ⌝ }
+    ensures { λ r. ⌜ left r (now (payload .exit)) ≡ payloadLent (levelPayload (coding .bits) (coding .greatest) (levelsIn (now (levels .entry)))) (now (payload .entry)) ⌝ }
+{
+    if payload.len() < octets.0 {
+        return Stored::Refused(Refusal::Room);
+    }
+    writer::finish(put_levels(coding, levels, payload), payload);
+    Stored::Span(octets)
+}
+
 fn coding_of(bits: u8, greatest: u16) -> LevelCoding
     requires { ⌜ Clear (codeRefusals bits greatest) ⌝ }
     ensures { λ r. ⌜ (r .bits ≡ bits) × (r .greatest ≡ greatest) × Codable r ⌝ }
@@ -232,12 +249,8 @@ pub fn write_run_length(bits: u8, greatest: u16, levels: &[u8], payload: &mut [u
         return Stored::Refused(Refusal::Numbers);
     }
     let coding = coding_of(bits, greatest);
-    let Stored::Span(octets) = octets_of(coding, levels) else {
-        return Stored::Refused(Refusal::Numbers);
-    };
-    if payload.len() < octets.0 {
-        return Stored::Refused(Refusal::Room);
+    match octets_of(coding, levels) {
+        Stored::Refused(refusal) => Stored::Refused(refusal),
+        Stored::Span(octets) => write_levels(coding, levels, octets, payload),
     }
-    writer::finish(put_levels(coding, levels, payload), payload);
-    Stored::Span(octets)
 }

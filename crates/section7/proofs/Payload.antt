@@ -17,7 +17,6 @@ use Rattle.format.specs.declared.Places.{Places}
 use Rattle.format.specs.declared.Refusal.the-variants.{Room}
 use Rattle.format.specs.declared.Stored.the-variants as stored
 use Rattle.format.specs.declared.Template.{Template}
-use Rattle.laws.specs.First.{decides, clears, tests}
 use Rattle.laws.specs.Lists.{map-listed}
 use Rattle.laws.specs.Spans.{span-aligned}
 use Rattle.laws.specs.Stores.{sets-append, sets-front}
@@ -26,7 +25,9 @@ use Rattle.laws.specs.Groups.{groupIn, groupsIn, ownGroups, Sound, length-own, 
 use Rattle.laws.specs.Accepting.{Passing}
 use Rattle.laws.specs.Saying.{part-size}
 use Rattle.laws.specs.Codings.{payload-length, list-coded, list-passing, reference-fits, width-coded, length-coded, list-steps}
-use Rattle.section7.specs.Parts.{codeOf, codesBy, referencesCoding, widthsCoding, lengthsCoding, groupBits, Codable, payloadLent}
+use Rattle.writer.specs.Pen.{payloadLent}
+use Rattle.writer.proofs.Lent.{lent-refused, lent-written}
+use Rattle.section7.specs.Parts.{codeOf, codesBy, referencesCoding, widthsCoding, lengthsCoding, groupBits, Codable}
 use Rattle.section7.specs.declared.FieldCoding.{FieldCoding}
 use Rattle.section7.proofs.Values.{size-all}
 use Rattle.section7.proofs.Codings.{codes-are, count-codes}
@@ -154,10 +155,8 @@ module _ {t : Template} {numbers octets : List ℕ} {count : ℕ} (s : Sound num
     size-is = ap (λ (p : Places). p .end .0) at ∙ ap (λ (n : ℕ). placesOf 0 t n .end .0) eb ∙ end-is
 
     pub payload-refused : (lent : List ℕ) → length lent < places .end .0 → left (stored.Refused Room) lent ≡ payloadLent (payloadOf t groups) lent
-    payload-refused lent l = decides (λ r. left (stored.Refused r) lent) Room _ _ ((λ h. omega arith), λ h. omega (arith, tests, size-is))
+    payload-refused lent l = lent-refused (payloadOf t groups) lent size-is l
 
     pub payload-written : (lent : List ℕ) → places .end .0 ≤ length lent → {written : List ℕ} → written ≡ payloadOf t groups over lent
         → left (stored.Span (places .end)) written ≡ payloadLent (payloadOf t groups) lent
-    payload-written lent room ew =
-        ap₂ (λ (n : ℕ) (l : List ℕ). left (stored.Span (record { 0 = n })) l) size-is ew
-        ∙ clears (λ r. left (stored.Refused r) lent) _ _ (omega (arith, tests, size-is), tt)
+    payload-written lent room ew = lent-written (payloadOf t groups) lent size-is room ew

@@ -1,18 +1,14 @@
 -- The parts of a payload, from the records of its groups: what each is, and what the loops are asked. Assumes nothing.
-use mathlib.Core.List.{List, [], _∷_, map}
+use mathlib.Core.List.{List, map}
 use Prim.Native.Nat.{ℕ, _+_, _-_, _*_, _/_, _^_, _≤_, _<_}
-use lib.Dec.{ltb}
 use lib.ListN.{length, getD}
-use Rattle.format.specs.Lists.{least, _over_}
+use Rattle.format.specs.Lists.{least}
 use Rattle.format.specs.Bits.{stringOf, roundedUp}
 use Rattle.format.specs.Layout.{groupSize}
-use Rattle.format.specs.Refusals.{_gives_, first, limit, Left, left}
+use Rattle.format.specs.Refusals.{limit}
 use Rattle.format.specs.Grouping.{widthOf}
-use Rattle.format.specs.declared.Refusal.the-variants.{Room}
 use Rattle.format.specs.declared.Group.{Group}
 use Rattle.format.specs.declared.OctetPlace.{OctetPlace}
-use Rattle.format.specs.declared.Stored.{Stored}
-use Rattle.format.specs.declared.Stored.the-variants as stored
 use Rattle.format.specs.declared.Template.{Template}
 use Rattle.laws.specs.Groups.{groupIn}
 use Rattle.writer.specs.Pen.{Moved}
@@ -73,9 +69,3 @@ pub record Begun (place : OctetPlace) (more octets octets′ : List ℕ) (q : Pe
   pub below : (k : ℕ) → getD octets k 0 < 256
   pub room : place .0 + roundedUp (length more) ≤ length octets
   pub moved : Moved (record { place = place; number = 0; pending = 0 }) more octets octets′ q
-
--- "10 for the payload": it is written where it has room
-abbrev pub payloadLent : List ℕ → List ℕ → Left Stored
-payloadLent payload lent =
-    first (λ r. left (stored.Refused r) lent) (ltb (length lent) (length payload) gives Room ∷ [])
-    (left (stored.Span (record { 0 = length payload })) (payload over lent))

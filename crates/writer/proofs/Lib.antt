@@ -1,2 +1,3 @@
 pub mod Pens
 pub mod Jobs
+pub mod Lent

@@ -1,12 +1,16 @@
 -- Octets that are written bit by bit. Assumes nothing.
 use mathlib.Core.Path.{_≡_}
 use mathlib.Core.Bool.{false}
-use mathlib.Core.List.{List, _++_}
+use mathlib.Core.List.{List, [], _∷_, _++_}
 use Prim.Native.Nat.{ℕ, _+_, _*_, _^_, _<_, _≤_}
-use lib.Dec.{leb}
+use lib.Dec.{leb, ltb}
 use lib.ListN.{length}
 use Rattle.format.specs.Lists.{anyOf, _over_}
 use Rattle.format.specs.Bits.{numberOf, bit, octetsOf, roundedUp, spanOf}
+use Rattle.format.specs.Refusals.{_gives_, first, Left, left}
+use Rattle.format.specs.declared.Refusal.the-variants.{Room}
+use Rattle.format.specs.declared.Stored.{Stored}
+use Rattle.format.specs.declared.Stored.the-variants as stored
 use Rattle.laws.specs.Bits.{Bits}
 use Rattle.writer.specs.declared.Pen.{Pen}
 
@@ -48,3 +52,9 @@ pub record Job (lent : List ℕ) (s w : ℕ) (xs : List ℕ) : Type 0 where
   pub fit : anyOf (leb (2 ^ w)) xs ≡ false
   pub room : spanOf s w (length xs) ≤ length lent
   pub some : 0 < length xs
+
+-- "10 for the payload": it is written where it has room
+abbrev pub payloadLent : List ℕ → List ℕ → Left Stored
+payloadLent payload lent =
+    first (λ r. left (stored.Refused r) lent) (ltb (length lent) (length payload) gives Room ∷ [])
+    (left (stored.Span (record { 0 = length payload })) (payload over lent))
