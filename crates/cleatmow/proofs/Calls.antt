@@ -8,8 +8,11 @@ use Rattle.format.specs.declared.Refusal.{Refusal}
 use Rattle.format.specs.Layout.{markOf, heldBy}
 use Rattle.format.specs.Unpacking.{unpack52}
 use Rattle.format.specs.Differences.{unpack53}
+use Rattle.format.specs.WritingRunLength.{writeRunLength}
 use Rattle.format.specs.Packing.{LeftPacked}
 use Rattle.format.specs.declared.OctetPlace.{OctetPlace}
+use Rattle.format.specs.declared.Stored.{Stored}
+use Rattle.format.specs.declared.Stored.the-variants as stored
 use Rattle.format.specs.declared.Packed.{Packed}
 use Rattle.format.specs.declared.Packed.the-variants as packed
 use Rattle.format.specs.declared.DecodedValue.{DecodedValue}
@@ -18,7 +21,10 @@ use Rattle.format.specs.declared.Picked.the-variants as picked
 use Rattle.format.specs.declared.Template.{Template}
 use Rattle.format.specs.declared.Differencing.{Differencing}
 use Rattle.format.specs.declared.Unpacked.{Unpacked}
-use Rattle.cleatmow.specs.Calls.{called, calledPoint, calledPack}
+use mir.Val.{Fits}
+use mir.Syntax.{w32}
+use Rattle.runs.proofs.Few.{octets-few}
+use Rattle.cleatmow.specs.Calls.{called, calledPoint, calledWrite, calledPack}
 
 pub called-is : {Answer : Type 0} (number : Answer → ℕ) (outcome : Left Answer) {answer : Answer} {buffer : List ℕ} {n : ℕ}
     → left answer buffer ≡ outcome → n ≡ number answer → left n buffer ≡ called number outcome
@@ -47,6 +53,18 @@ module _ (outcome : Picked) (mark : ℕ) (held : ℤ) {picks : Picked} (e : pick
   pub point-done : {point : DecodedValue} {m : ℕ} {z : ℤ} → picks ≡ picked.Point point → m ≡ markOf point → z ≡ heldBy point
       → record { number = 0; mark = m; held = z } ≡ calledPoint outcome mark held
   point-done d em ez = rw (← e, d, em, ez)
+
+module _ (outcome : Left Stored) (before : ℕ) {answer : Stored} {payload : List ℕ} (e : left answer payload ≡ outcome) where
+  pub write-refused : {r : Refusal} {n : ℕ} → answer ≡ stored.Refused r → n ≡ refusalNumber r → record { number = n; payload = payload; octets = before } ≡ calledWrite outcome before
+  write-refused d en = rw (← e, d, en)
+
+  pub write-done : {octets : OctetPlace} {n : ℕ} → answer ≡ stored.Span octets → n ≡ octets .0 → record { number = 0; payload = payload; octets = n } ≡ calledWrite outcome before
+  write-done d en = rw (← e, d, en)
+
+-- the octets of a payload fit their value
+pub write-fits : (b M : ℕ) (levels lent : List ℕ) {answer : Stored} {payload : List ℕ} {octets : OctetPlace} → left answer payload ≡ writeRunLength b M levels lent → answer ≡ stored.Span octets
+    → Fits w32 (octets .0)
+write-fits b M levels lent {payload = payload} e d = record { fits = octets-few b M levels lent (ap (λ (a : Stored). left a payload) (sym d) ∙ e) }
 
 module _ (outcome : LeftPacked) {answer : Packed} {groups payload summary : List ℕ}
     (e : record { answer = answer; groups = groups; payload = payload; summary = summary } ≡ outcome) where

@@ -8,9 +8,10 @@ ghost use Rattle.format.specs.Differences.{unpack53};
 ghost use Rattle.format.specs.Section5.{readSection5, writeSection5, unpackSection5};
 ghost use Rattle.format.specs.Point.{pointSection5};
 ghost use Rattle.format.specs.RunLength.{runLength};
-ghost use Rattle.format.specs.Layout.{numbersIn};
+ghost use Rattle.format.specs.WritingRunLength.{writeRunLength};
+ghost use Rattle.format.specs.Layout.{numbersIn, levelsIn};
 ghost use Rattle.format.specs.Packing.{pack};
-ghost use Rattle.cleatmow.specs.Calls.{called, givenDifferencing, calledPoint, calledPack};
+ghost use Rattle.cleatmow.specs.Calls.{called, givenDifferencing, calledPoint, calledWrite, calledPack};
 use format::Differencing;
 use format::Fetched;
 use format::Packed;
@@ -189,6 +190,26 @@ pub extern "C" fn cleatmow_run_length(
     match run_length::run_length(bits, greatest, declared, payload, levels) {
         Unrolled::Levels(_) => 0,
         Unrolled::Refused(refusal) => refusal_number(refusal),
+    }
+}
+
+// Levels, two octets each, as a payload of template 7.200, and how many octets that has.
+#[no_mangle]
+pub extern "C" fn cleatmow_write_run_length(
+    bits: u8,
+    greatest: u16,
+    levels: &[u8],
+    payload: &mut [u8],
+    octets: &mut u32,
+) -> u32
+    ensures { λ r. ⌜ record { number = r; payload = now (payload .exit); octets = now (octets .exit) } ≡ calledWrite (writeRunLength bits greatest (levelsIn (now (levels .entry))) (now (payload .entry))) (now (octets .entry)) ⌝ }
+{
+    match runs::write_run_length(bits, greatest, levels, payload) {
+        Stored::Refused(refusal) => refusal_number(refusal),
+        Stored::Span(span) => {
+            *octets = span.0 as u32;
+            0
+        }
     }
 }
 

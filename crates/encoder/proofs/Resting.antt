@@ -16,7 +16,7 @@ use Rattle.format.specs.declared.Stored.{Stored}
 use Rattle.format.specs.declared.Stored.the-variants as stored
 use Rattle.format.specs.declared.Template.{Template}
 use Rattle.laws.specs.First.{passed, first-through}
-use Rattle.writer.specs.Pen.{payloadLent}
+use Rattle.section7.specs.Parts.{payloadLent}
 use Rattle.encoder.specs.Whole.{Rest, rest}
 
 -- what the payload's outcome is made: the answer, and the summary

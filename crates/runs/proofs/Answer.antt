@@ -20,7 +20,7 @@ use Rattle.writer.specs.Pen.{payloadLent}
 use Rattle.runs.specs.Runs.{counted}
 
 -- a span is none of the refusals, and its octets are known by it
-abbrev spans : Stored → ℕ
+abbrev pub spans : Stored → ℕ
 spans (stored.Span octets) = suc (octets .0)
 spans (stored.Refused r) = 0
 

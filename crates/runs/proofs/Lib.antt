@@ -3,3 +3,4 @@ pub mod Runs
 pub mod Codes
 pub mod Putting
 pub mod Answer
+pub mod Few

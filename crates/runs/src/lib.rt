@@ -147,7 +147,12 @@ fn put_digit(coding: LevelCoding, digit: usize, pen: Pen, payload: &mut [u8]) ->
     requires { ⌜ Codable coding × (digit < coding .base) × Ready pen (coding .bits) (now payload) ⌝ }
     ensures { λ r. ⌜ Moved pen (stringOf (coding .bits) ((coding .greatest + 1 + digit) ∷ [])) (now (payload .entry)) (now (payload .exit)) r ⌝ }
 {
-    writer::put(pen, (coding.greatest + 1 + digit) as u64, coding.bits, payload)
+    writer::put(
+        pen,
+        (coding.greatest + 1 + digit) as u64,
+        coding.bits,
+        payload,
+    )
 }
 
 // "in digits of the base, least first, no leading zero digit at the top"

@@ -25,9 +25,8 @@ use Rattle.laws.specs.Groups.{groupIn, groupsIn, ownGroups, Sound, length-own, 
 use Rattle.laws.specs.Accepting.{Passing}
 use Rattle.laws.specs.Saying.{part-size}
 use Rattle.laws.specs.Codings.{payload-length, list-coded, list-passing, reference-fits, width-coded, length-coded, list-steps}
-use Rattle.writer.specs.Pen.{payloadLent}
 use Rattle.writer.proofs.Lent.{lent-refused, lent-written}
-use Rattle.section7.specs.Parts.{codeOf, codesBy, referencesCoding, widthsCoding, lengthsCoding, groupBits, Codable}
+use Rattle.section7.specs.Parts.{codeOf, codesBy, referencesCoding, widthsCoding, lengthsCoding, groupBits, Codable, payloadLent}
 use Rattle.section7.specs.declared.FieldCoding.{FieldCoding}
 use Rattle.section7.proofs.Values.{size-all}
 use Rattle.section7.proofs.Codings.{codes-are, count-codes}

@@ -11,6 +11,7 @@ use Rattle.format.specs.declared.Group.{Group}
 use Rattle.format.specs.declared.OctetPlace.{OctetPlace}
 use Rattle.format.specs.declared.Template.{Template}
 use Rattle.laws.specs.Groups.{groupIn}
+pub use Rattle.writer.specs.Pen.{payloadLent}
 use Rattle.writer.specs.Pen.{Moved}
 use Rattle.writer.specs.declared.Pen.{Pen}
 use Rattle.numbers.specs.Records.{codedNumber}

@@ -125,7 +125,6 @@ fresh place = record { place = place; number = 0; pending = 0 }
 pub fresh-ready : {p : Pen} {place : OctetPlace} → p ≡ fresh place → (n : ℕ) {octets : List ℕ} → place .0 + roundedUp n ≤ length octets → Ready p n octets
 fresh-ready {p} {place} e n l = rw e (record { few = omega arith; small = omega arith; room = omega arith })
 
-
 pub moved-none : {p : Pen} {n : ℕ} {octets : List ℕ} → Ready p n octets → Moved p [] octets octets p
 moved-none r = record { few = r .few; small = r .small; place = omega arith; long = refl; held = λ string lent h. rw (append-nil string) h }
 
