@@ -223,6 +223,17 @@ where-holds (suc n) f l = by-test (f 0) refl (where-holds n (λ i. f (suc i))) l
     by-test true h below l = h
     by-test false h below l = below (omega arith)
 
+-- and it is no later than any other
+pub where-first : (n : ℕ) (f : ℕ → Bool) (k : ℕ) → f k ≡ true → firstWhere n f ≤ k
+unfolding firstWhere
+where-first zero f k h = omega arith
+where-first (suc n) f zero h = rw h (omega arith)
+where-first (suc n) f (suc k) h = by-test (f 0) (where-first n (λ i. f (suc i)) k h)
+  where
+    by-test : (t : Bool) {m : ℕ} → m ≤ k → cond t 0 (suc m) ≤ suc k
+    by-test true l = omega arith
+    by-test false l = omega arith
+
 -- it holds of none below k; and of k, where k is not the end
 pub where-is : (n : ℕ) (f : ℕ → Bool) (k : ℕ) → k ≤ n → ((i : ℕ) → i < k → f i ≡ false) → (k < n → f k ≡ true) → firstWhere n f ≡ k
 unfolding firstWhere

@@ -37,11 +37,11 @@ behind M base level weight (code ∷ codes) = by-test (ltb M code) refl (behind 
 
 -- ---- padding
 
--- code 0 is a level, whatever M is
-levels-zero : (M base level weight n : ℕ) → levelsOf M base level weight (replicate n 0) ≡ replicate n 0
+-- a level that stands several times; code 0 is one, whatever M is
+pub levels-same : (M base last weight level n : ℕ) → level ≤ M → levelsOf M base last weight (replicate n level) ≡ replicate n level
 unfolding levelsOf
-levels-zero M base level weight zero = refl
-levels-zero M base level weight (suc n) = rw (le-ltb M 0 (omega arith)) (ap (λ (l : List ℕ). 0 ∷ l) (levels-zero M base 0 1 n))
+levels-same M base last weight level zero l = refl
+levels-same M base last weight level (suc n) l = rw (le-ltb M level l) (ap (λ (levels : List ℕ). level ∷ levels) (levels-same M base level 1 level n l))
 
 module _ (payload : List ℕ) (p : ℕ) where
   -- "fewer than 8 bits are left, all zero": and past the payload's end there is none
@@ -77,7 +77,7 @@ levels-padded b M payload n m h =
     (λ k l. number-zero (bitAt payload) (0 + n * b + k * b) b (λ i q. padding-zero payload (n * b) h (0 + n * b + k * b + i) (omega arith)))
     ∙ listed-same m 0 in
     let r = behind M (baseOf b M) 0 1 (fieldOf payload 0 b n) in
-    rw (field-add payload 0 b n m, zeros) (r .levels (replicate m 0) ∙ rw (levels-zero M (baseOf b M) (r .last) (r .raised) m))
+    rw (field-add payload 0 b n m, zeros) (r .levels (replicate m 0) ∙ rw (levels-same M (baseOf b M) (r .last) (r .raised) 0 m (omega arith)))
 
 pub length-padded : (b M : ℕ) (payload : List ℕ) (n k : ℕ) → onlyPadding payload (n * b) ≡ true → n < k
     → length (levelsUpTo b M payload n) < length (levelsUpTo b M payload k)

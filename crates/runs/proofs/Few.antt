@@ -2,25 +2,29 @@
 use mathlib.Core.Path.{_≡_, refl, ap, _∙_}
 use mathlib.Core.Bool.{Bool, true, false}
 use mathlib.Core.List.{List, [], _∷_, _++_, flatMap}
-use Prim.Native.Nat.{ℕ, suc, _+_, _*_, _^_, _≤_, _<_}
+use Prim.Native.Nat.{ℕ, _*_, _^_, _≤_, _<_}
+use native.Mathlib.Nat.{mul-le-mul-right}
 use native.Mathlib.Omega.{arith}
 use lib.Dec.{eqb, ltb}
-use lib.ListN.{length, length-append}
-use borrow.Author.Tests.{ltb-true, ltb-false}
-use Rattle.format.specs.Bits.{stringOf}
+use lib.ListN.{length, length-append, length-replicate}
+use borrow.Author.Tests.{ltb-true, ltb-false, eqb-false}
+use Rattle.format.specs.Lists.{anyOf}
+use Rattle.format.specs.Bits.{stringOf, roundedUp}
 use Rattle.format.specs.Refusals.{limit, Left, left}
 use Rattle.format.specs.RunLength.{baseOf}
-use Rattle.format.specs.WritingRunLength.{runsFrom, runsOf, runCodes, levelCodes, levelPayload, writeRunLengthRefusals, writeRunLength}
+use Rattle.format.specs.WritingRunLength.{runsOf, runCodes, levelCodes, levelPayload, writeRunLengthRefusals, writeRunLength}
 use Rattle.format.specs.declared.LevelRun.{LevelRun}
 use Rattle.format.specs.declared.OctetPlace.{OctetPlace}
 use Rattle.format.specs.declared.Stored.{Stored}
 use Rattle.format.specs.declared.Stored.the-variants as stored
 use Rattle.laws.specs.Bits.{product}
+use Rattle.laws.specs.Lists.{either-left, either-right}
 use Rattle.laws.specs.First.{Clear, passed, tests}
 use Rattle.laws.specs.Strings.{length-string, length-padded}
 use Rattle.runs.proofs.Digits.{digits-few}
 use Rattle.runs.proofs.Codes.{count-repeated, count-digits}
 use Rattle.runs.proofs.Answer.{spans}
+use Rattle.runs.proofs.Longest.{unrolled, empty, runs-longest}
 
 module _ (M base : ℕ) where
   run-few : (run : LevelRun) → 0 < run .length → length (runCodes M base run) ≤ run .length
@@ -33,29 +37,31 @@ module _ (M base : ℕ) where
           let e = count-digits (record { bits = 0; greatest = M; base = base }) run low some (refl, digits-few base low _) in
           omega (arith, e .0, e .1)
 
-  -- a run, and those behind it
-  both-few : (level n : ℕ) (runs : List LevelRun) {m : ℕ} → 0 < n → length (flatMap (runCodes M base) runs) ≤ m
-      → length (flatMap (runCodes M base) (record { level = level; length = n } ∷ runs)) ≤ n + m
-  unfolding flatMap
-  both-few level n runs some h =
-      let own = runCodes M base (record { level = level; length = n }) in
-      omega (arith, length-append own (flatMap (runCodes M base) runs), run-few (record { level = level; length = n }) some)
-
-  runs-few : (level n : ℕ) (levels : List ℕ) → 0 < n → length (flatMap (runCodes M base) (runsFrom level n levels)) ≤ n + length levels
-  unfolding runsFrom flatMap
-  runs-few level n [] some = both-few level n [] some (omega arith)
-  runs-few level n (next ∷ levels) some = by-test (eqb next level) refl (runs-few level (suc n) levels) (runs-few next 1 levels)
-    where
-      by-test : (t : Bool) → eqb next level ≡ t → (0 < suc n → length (flatMap (runCodes M base) (runsFrom level (suc n) levels)) ≤ suc n + length levels)
-          → (0 < 1 → length (flatMap (runCodes M base) (runsFrom next 1 levels)) ≤ 1 + length levels)
-          → length (flatMap (runCodes M base) (runsFrom level n (next ∷ levels))) ≤ n + suc (length levels)
-      by-test true h grown again = rw h (omega (arith, grown (omega arith)))
-      by-test false h grown again = rw h (both-few level n (runsFrom next 1 levels) some (omega (arith, again (omega arith))))
+  runs-few : (runs : List LevelRun) → anyOf empty runs ≡ false → length (flatMap (runCodes M base) runs) ≤ length (flatMap unrolled runs)
+  unfolding flatMap anyOf
+  runs-few [] h = omega arith
+  runs-few (run ∷ runs) h =
+      let first = eqb-false (run .length) 0 (either-left (eqb (run .length) 0) (anyOf empty runs) h) in
+      omega (
+        arith,
+        length-append (runCodes M base run) (flatMap (runCodes M base) runs),
+        length-append (unrolled run) (flatMap unrolled runs),
+        length-replicate (run .length) (run .level),
+        run-few run (omega arith),
+        runs-few runs (either-right (eqb (run .length) 0) (anyOf empty runs) h),
+      )
 
 pub codes-few : (b M : ℕ) (levels : List ℕ) → length (levelCodes b M levels) ≤ length levels
-unfolding levelCodes runsOf flatMap
-codes-few b M [] = omega arith
-codes-few b M (level ∷ levels) = omega (arith, runs-few M (baseOf b M) level 1 levels (omega arith))
+unfolding levelCodes
+codes-few b M levels =
+    let l = runs-longest levels in
+    omega (arith, runs-few M (baseOf b M) (runsOf levels) (l .none-empty), ap length (l .make))
+
+-- a buffer of so many octets is always enough
+pub payload-few : (b M : ℕ) (levels : List ℕ) → length (levelPayload b M levels) ≤ roundedUp (length levels * b)
+payload-few b M levels =
+    let codes = levelCodes b M levels in
+    omega (arith, length-padded (stringOf b codes), length-string b codes, mul-le-mul-right b (codes-few b M levels))
 
 -- so the octets of a payload fit 32 bits
 pub octets-few : (b M : ℕ) (levels lent : List ℕ) {octets : OctetPlace} {payload : List ℕ} → left (stored.Span octets) payload ≡ writeRunLength b M levels lent → octets .0 < 2 ^ 32

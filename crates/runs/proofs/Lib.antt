@@ -3,4 +3,8 @@ pub mod Runs
 pub mod Codes
 pub mod Putting
 pub mod Answer
+pub mod Longest
 pub mod Few
+pub mod Back
+pub mod Claims
+pub mod Needed

@@ -40,7 +40,7 @@ unfolding runsOf
 runs-first level zero behind l h = absurd (omega arith)
 runs-first level (suc n) behind l h = let e : 1 + n ≡ suc n = omega arith in runs-add level 1 n behind ∙ rw e (runs-end level (suc n) behind h)
 
-any-replicate : (f : ℕ → Bool) (level n : ℕ) (behind : List ℕ) → 0 < n → anyOf f (replicate n level ++ behind) ≡ (f level || anyOf f behind)
+pub any-replicate : (f : ℕ → Bool) (level n : ℕ) (behind : List ℕ) → 0 < n → anyOf f (replicate n level ++ behind) ≡ (f level || anyOf f behind)
 unfolding anyOf
 any-replicate f level zero behind l = absurd (omega arith)
 any-replicate f level (suc zero) behind l = refl
