@@ -107,7 +107,7 @@ pub fn write_text(text: &Path, to: &Path, out: &mut impl Write) -> Result<(), Tr
             true => "of no level is it said what it stands for",
             false => "what the levels stand for is as the text has it, and is not read here",
         };
-        line(out, "Section 5", said)?;
+        line(out, "values", said)?;
         line(out, "packed", &format!("{} octets", shown::count(octets_of(&sections))))?;
         line(out, "written", &files)?;
         out.flush()?;
