@@ -138,7 +138,7 @@ impl Comparison {
 
     /// Every list of up to seven levels, at scale of up to nine, each the least, the greatest or one more than the least.
     fn short(&mut self) {
-        self.stage("short, every one", 100_000, 10_000);
+        self.stage("short, every one", 150_000, 50_000);
         let most = if self.scale > 1 { 9 } else { 7 };
         for coding in Coding::all_to_try(&mut self.dice) {
             let mut choices = vec![0, 1, coding.max_level];
@@ -157,7 +157,7 @@ impl Comparison {
 
     /// Runs about each power of the base, alone and between others.
     fn runs(&mut self) {
-        self.stage("runs about each power", 1_500, 150);
+        self.stage("runs about each power", 4_000, 1_000);
         for coding in Coding::all_to_try(&mut self.dice) {
             // With base 0 and 1 there are no digits.
             let base = coding.base().max(2);
@@ -172,7 +172,7 @@ impl Comparison {
 
     /// Lists with runs of every length.
     fn made(&mut self) {
-        self.stage("made, with runs", 80_000, 8_000);
+        self.stage("made, with runs", 75_000, 20_000);
         for _ in 0..100_000 * self.scale {
             let (coding, levels) = self.list();
             self.one(coding, &levels, None);
@@ -196,7 +196,7 @@ impl Comparison {
 
     /// Too little room, and more than enough.
     fn lent(&mut self) {
-        self.stage("lent buffers", 3_000, 3_000);
+        self.stage("lent buffers", 4_000, 5_000);
         for _ in 0..10_000 * self.scale {
             let (coding, levels) = self.list();
             let enough = coding.written(&levels).len();
@@ -210,7 +210,7 @@ impl Comparison {
 
     /// What is refused, and the last that is not, with too little room or enough; and the longest lists.
     fn limits(&mut self) {
-        self.stage("limits", 300, 1_000);
+        self.stage("limits", 350, 4_000);
         for coding in Coding::all_to_try(&mut self.dice) {
             let most = coding.max_level;
             for above in [most, most + 1, most | 0x100, u16::MAX] {
