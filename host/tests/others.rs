@@ -149,6 +149,21 @@ fn levels_of_run_length_maps_written_again() {
     assert_eq!(counts, [[10, 10, 0, 0], [14, 3, 5, 10]]);
 }
 
+/// ecCodes leaves out the last octet where codes do not fill it: its maps that are 9 here, and all of one level, 0.
+#[test]
+fn run_length_maps_without_their_last_octet() {
+    let of_ecc = |map: &&Map| map.template == 200 && map.id.starts_with("ecc") && map.refusal == Some(Refusal::Points);
+    let (maps, mut held) = (maps(), 0);
+    for map in maps.iter().filter(of_ecc) {
+        let ((bits, max_level), declared) = (coding(map), map.section5.declared);
+        assert!(map.has(&vec![Point::Number(0); declared as usize]), "{}", map.id);
+        let written = write_run_length(bits, max_level, &vec![0; declared as usize]).unwrap();
+        assert_eq!(written[..written.len() - 1], map.payload, "{}", map.id);
+        held += 1;
+    }
+    assert_eq!(held, 3);
+}
+
 #[test]
 fn every_line_is_whole() {
     let maps = maps();

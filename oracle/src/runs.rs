@@ -1,5 +1,6 @@
 //! The documents' reading of a run-length payload, written plainly for the programs here: they have to know how many
-//! points an input has before they let the Rust store them, and whether the Rust can judge it at all.
+//! points an input has before they let the Rust store them, and whether the Rust can judge it at all. And their writing,
+//! which the Rust does not have.
 
 use crate::dice::Dice;
 
