@@ -149,9 +149,10 @@ impl Topic {
                      begin with #: the bits of a code, the greatest level and how many points there are; and, in \
                      hexadecimal, what Section 5 says of the levels' values. They are levels and not gusts: what one \
                      stands for is not read here, and it may be a missing point.",
-                    "With --write such a text becomes a map again, NAME.s5 and NAME.s7. Its first line is needed. \
-                     Without the second, Section 5 says of no level what it stands for. No file is written over: \
-                     either both files are written, each whole, or none.",
+                    "With --write such a text becomes a map again, NAME.s5 and NAME.s7. Its first line must be like \
+                     '# levels, not gusts: bits 4, greatest level 9, points 10'. Without the second, Section 5 says of \
+                     no level what it stands for. No file is written over: either both files are written, each whole, \
+                     or none.",
                 ],
                 example: "desk levels --write rain.txt --to rain",
             },
@@ -194,9 +195,9 @@ const WORDS: [(&str, &str); 6] = [
     (
         "MAP",
         "FILE, a GRIB2 file with one field, or FILE:N for its Nth field; or NAME for the two files NAME.s5 and NAME.s7, \
-         either of which names the map too. NAME.s5 is Section 5 of a GRIB2 message, whole, of template 5.2 or 5.3 (for desk \
-         levels 5.200); NAME.s7 is its Section 7, whole: length in four octets, number 7, payload. A field with a bitmap \
-         is refused.",
+         either of which names the map too. NAME.s5 is Section 5 of a GRIB2 message, whole, of template 5.2 or 5.3, or for \
+         desk levels of 5.200; NAME.s7 is its Section 7, whole: length in four octets, number 7, payload. A field with a \
+         bitmap is refused.",
     ),
     (
         "GRID",

@@ -2,7 +2,8 @@
 //!
 //! `compare` runs it all, prints what was compared, and fails on a difference and where too little was compared.
 //! `compare at_scale` does so with ten times as many inputs by chance, or as many times as a number after it says, and then
-//! prints the tables of docs/DIFFERENCES.md. With an operation and an input it judges that one, whose payload is hexadecimal, or - for none:
+//! prints the tables of docs/DIFFERENCES.md. With an operation and an input it judges that one, whose payload is
+//! hexadecimal, or - for none:
 //!
 //! - `compare run_length BITS MAX_LEVEL DECLARED PAYLOAD`
 //! - `compare write_run_length BITS MAX_LEVEL LEVELS`, the levels in hexadecimal too, two octets each; and, where it is not
