@@ -113,7 +113,7 @@ fn texts_that_are_none() {
     let no_level =
         |line: usize, said: &str| format!("text, line {line}: '{said}' is no level, a whole number from 0 to 65,535");
     let no_values = "text, line 2: not like '# Section 5 from octet 15 on: 000000'";
-    let other_count = |said: &str, found: &str| format!("text says that it has {said}, and {found} stand in it");
+    let other_count = |said: &str, found: &str| format!("text says that it has {said}, and it has {found}");
     let below = |lines: &str| format!("{HEAD}\n{lines}").into_bytes();
     for (text, sentence) in [
         (vec![], no_text.to_string()),

@@ -7,7 +7,7 @@ use crate::map::{section5, Map};
 use crate::packing::{check, Packed};
 use crate::progress::printing;
 use crate::shown::{self, Number, NO_FORECAST};
-use crate::source::Sections;
+use crate::source::{octets_of, Sections};
 use crate::trouble::Trouble;
 use cleatmow::Points;
 use std::io::{self, Write};
@@ -112,14 +112,17 @@ pub fn pack(asked: &Pack, out: &mut impl Write) -> Result<(), Trouble> {
     let packed = Packed::of(&cut_out, &map.physical, asked.lookahead)?;
     let files = write(&asked.to, &packed.sections)?;
     let mut print = || -> Result<(), Trouble> {
-        let octets = packed.sections.iter().map(|section| section.len() as u64).sum::<u64>();
         line(out, "map", &map.in_full())?;
         line(out, "grid", &laid.grid.in_full())?;
         line(out, "pair", &sections_are(&map, None))?;
         let (grid, lookahead) = (cut_out.grid(), asked.lookahead);
         line(out, "cut-out", &format!("{}: {grid}, {}", cut_out.rectangle, shown::many(grid.points(), "point")))?;
         let groups = shown::many(packed.groups, "group");
-        line(out, "packed", &format!("{groups}, lookahead {lookahead}, {} octets", shown::count(octets)))?;
+        line(
+            out,
+            "packed",
+            &format!("{groups}, lookahead {lookahead}, {} octets", shown::count(octets_of(&packed.sections))),
+        )?;
         line(out, "written", &files)?;
         let Grid { columns, rows, .. } = grid;
         line(out, "on site", &format!("read with --columns {columns} --rows {rows} --lookahead {lookahead}"))?;

@@ -6,10 +6,10 @@ use crate::files::read;
 use crate::map::{payload, section5};
 use crate::progress::{printing, step};
 use crate::shown;
-use crate::source::{whole_number, Sections, MOST_OF_A_SECTION};
+use crate::source::{octets_of, whole_number, Sections, MOST_OF_A_SECTION};
 use crate::trouble::Trouble;
 use cleatmow::{run_length, section7_of, write_run_length, Refusal, Section5, TemplateNumbers};
-use std::fmt::{self, Write as _};
+use std::fmt;
 use std::io::Write;
 use std::path::Path;
 
@@ -116,11 +116,6 @@ pub fn write_text(text: &Path, to: &Path, out: &mut impl Write) -> Result<(), Tr
     print().map_err(|trouble| trouble.after(&files))
 }
 
-/// The octets of both sections.
-fn octets_of(sections: &[Vec<u8>; 2]) -> u64 {
-    sections.iter().map(|section| section.len() as u64).sum()
-}
-
 /// A text, read.
 struct Text {
     head: Head,
@@ -159,7 +154,7 @@ impl Text {
             true => Ok(Text { head, values, levels }),
             false => {
                 let (said, found) = (shown::many(head.points, "point"), shown::many(levels.len(), "level"));
-                Trouble::host(format!("{name} says that it has {said}, and {found} stand in it"))
+                Trouble::host(format!("{name} says that it has {said}, and it has {found}"))
             }
         }
     }
@@ -167,11 +162,7 @@ impl Text {
 
 /// Octets in hexadecimal digits, and back.
 fn in_digits(octets: &[u8]) -> String {
-    octets.iter().fold(String::new(), |mut digits, octet| {
-        // A string takes all that is written to it.
-        let _ = write!(digits, "{octet:02x}");
-        digits
-    })
+    octets.iter().map(|octet| format!("{octet:02x}")).collect()
 }
 
 fn octets_in(digits: &str) -> Option<Vec<u8>> {

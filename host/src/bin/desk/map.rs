@@ -4,7 +4,7 @@ use crate::grid::{Grid, Laid, Place, Typed};
 use crate::own_groups::{own_groups, OwnGroup};
 use crate::progress::step;
 use crate::shown;
-use crate::source::Sections;
+use crate::source::{octets_of, Sections};
 use crate::trouble::{Trouble, Why};
 use cleatmow::grib2::{self, NoGrid};
 use cleatmow::{
@@ -85,7 +85,7 @@ impl Map {
 
     /// The octets of both sections.
     pub fn octets(&self) -> u64 {
-        self.sections.iter().map(|section| section.len() as u64).sum()
+        octets_of(&self.sections)
     }
 
     fn payload(&self) -> &[u8] {

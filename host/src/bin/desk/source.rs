@@ -49,6 +49,11 @@ impl Sections {
     }
 }
 
+/// How many octets two sections have.
+pub fn octets_of(sections: &[Vec<u8>; 2]) -> u64 {
+    sections.iter().map(|section| section.len() as u64).sum()
+}
+
 /// A GRIB2 file, read.
 pub struct Grib2File {
     pub name: String,
