@@ -21,9 +21,9 @@
 #define CLEATMOW_H
 
 /* The version of the calls and of this header. */
-#define CLEATMOW_VERSION "0.5.0"
+#define CLEATMOW_VERSION "0.6.0"
 #define CLEATMOW_VERSION_MAJOR 0
-#define CLEATMOW_VERSION_MINOR 5
+#define CLEATMOW_VERSION_MINOR 6
 #define CLEATMOW_VERSION_PATCH 0
 
 #include <stddef.h>
@@ -61,7 +61,8 @@ enum cleatmow_refusal {
     /* a restored number is beyond 2^60 either way */
     CLEATMOW_REFUSAL_BEYOND = 12,
     /* packing: list empty or above 4,194,304 numbers, a number above 2,147,483,647, lookahead outside 1 to 65,535;
-       writing Section 5: a number that its octets do not hold */
+       writing Section 5: a number that its octets do not hold; writing run-length: a level above M, or more than
+       4,194,304 levels */
     CLEATMOW_REFUSAL_NUMBERS = 13,
     /* Section 5: fewer octets or fields than its template has (fewer than eleven octets name none), a length that is
        not its template's, a section number other than 5, or a template other than 5.2 and 5.3; for one point, other
@@ -294,6 +295,31 @@ uint32_t cleatmow_run_length(
     uint8_t bits, uint16_t max_level, uint32_t declared,
     const uint8_t *payload, size_t payload_len,
     uint8_t *levels, size_t levels_len);
+
+/*
+ * Run-length, template 7.200: writes the levels of a map. Each longest run is its level and then the run length less
+ * one in digits of the base, 2^b - 1 - M, least first, no leading zero digit at the top, none at all for a run of one.
+ * Digit d is code M + 1 + d. Where the base is below 2, a run repeats its level instead. Zero bits pad the last octet.
+ * cleatmow_run_length reads the levels back, with as many declared.
+ *
+ * bits         b, the bits of a code: 1 to 15
+ * max_level    M, the greatest level: up to 2^b - 1
+ * levels       the list, up to CLEATMOW_MOST_POINTS levels of up to max_level, CLEATMOW_LEVEL_OCTETS each. An empty
+ *              list has a payload of no octets
+ * levels_len   how many octets the list has
+ * payload      lent: room for the octets of Section 7 after its five-octet header. There are never more codes than
+ *              levels, so (levels * bits + 7) / 8 octets are always enough
+ * payload_len  how many octets are lent; more than the payload takes is fine
+ * octets       lent: one value, for how many octets the payload has
+ *
+ * Refusals, in this order: 5, for an empty list too; 13; 10. A refusal changes nothing.
+ * 0: the payload stands at the front of `payload`, and how many octets it has in `octets`; those past it are unchanged.
+ */
+uint32_t cleatmow_write_run_length(
+    uint8_t bits, uint16_t max_level,
+    const uint8_t *levels, size_t levels_len,
+    uint8_t *payload, size_t payload_len,
+    uint32_t *octets);
 
 /*
  * Grouping and packing: makes the payload of a map under template 5.2 of a list of numbers. cleatmow_unpack_complex

@@ -20,12 +20,14 @@ OPERATIONS="run_length:run_length run_length_1000:run_length unpack_complex:unpa
 # Those where the Rust is left out: at the greatest lookahead it would take too long. No limit is asked of them.
 ALONE="pack_65535:pack pack_rising:pack pack_sawtooth:pack pack_patches:pack pack_alternating:pack
     pack_doubling:pack pack_spikes:pack pack_comb:pack"
+# Writing the levels of a run-length map, which is cleatmow_write_run_length.
+WRITING="write_run_length write_run_length_1000"
 # By the octets of Section 5, which is cleatmow_unpack, and the C call with typed numbers that stands beside it.
 BY_SECTION5="section5_complex:unpack_complex section5_spatial:unpack_spatial"
 # One point, which is cleatmow_point.
 ONE_POINT="point_first point_middle point_last point_conus_first point_conus_middle point_conus_last"
 # Of the made maps: enough for a steady count, and few enough for callgrind. The real ones have the points that they have,
-# and run_length_1000 has 1,000.
+# and those that end with _1000 have 1,000.
 POINTS=100000
 
 cargo build --release --offline --quiet --bin bench
@@ -79,6 +81,13 @@ for pair in $OPERATIONS; do
     *) continue ;;
     esac
     echo "  limit              ${limit#* }"
+done
+
+# What reading the same map takes stands above.
+for operation in $WRITING; do
+    ours=$(counted "$operation" ours cleatmow_write_run_length)
+    echo "$operation: ${ours% *} levels, instructions a level"
+    echo "  ours, lent buffer  ${ours#* }"
 done
 
 # What reading the section costs is small beside the map, so that it shows in more digits alone.

@@ -14,6 +14,7 @@
     call(unpack_complex) \
     call(unpack_spatial) \
     call(run_length) \
+    call(write_run_length) \
     call(pack)
 
 /*
@@ -31,6 +32,8 @@
     TEMPLATE(NUMBER), NUMBER(uint8_t, order), NUMBER(uint8_t, descriptor_octets), READ(payload), LENT(points)
 #define run_length_TAKES(NUMBER, READ, LENT, PLACE) \
     NUMBER(uint8_t, bits), NUMBER(uint16_t, max_level), NUMBER(uint32_t, declared), READ(payload), LENT(levels)
+#define write_run_length_TAKES(NUMBER, READ, LENT, PLACE) \
+    NUMBER(uint8_t, bits), NUMBER(uint16_t, max_level), READ(levels), LENT(payload), PLACE(uint32_t, octets)
 #define pack_TAKES(NUMBER, READ, LENT, PLACE) \
     NUMBER(uint32_t, lookahead), READ(numbers), LENT(groups), LENT(payload), LENT(summary)
 

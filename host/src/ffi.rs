@@ -52,6 +52,16 @@ mod c {
             levels_len: usize,
         ) -> u32;
 
+        pub fn cleatmow_write_run_length(
+            bits: u8,
+            max_level: u16,
+            levels: *const u8,
+            levels_len: usize,
+            payload: *mut u8,
+            payload_len: usize,
+            octets: *mut u32,
+        ) -> u32;
+
         pub fn cleatmow_pack(
             lookahead: u32,
             numbers: *const u8,
@@ -165,6 +175,21 @@ pub fn run_length(bits: u8, max_level: u16, declared: u32, payload: &[u8], level
             payload.len(),
             levels.as_mut_ptr(),
             levels.len(),
+        )
+    }
+}
+
+pub fn write_run_length(bits: u8, max_level: u16, levels: &[u8], payload: &mut [u8], octets: &mut u32) -> u32 {
+    // SAFETY: as in `unpack_complex`, with `payload` and the value for `points`: each is borrowed for writing.
+    unsafe {
+        c::cleatmow_write_run_length(
+            bits,
+            max_level,
+            levels.as_ptr(),
+            levels.len(),
+            payload.as_mut_ptr(),
+            payload.len(),
+            octets,
         )
     }
 }

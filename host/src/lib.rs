@@ -115,6 +115,8 @@
 //! ```
 //! let levels = cleatmow::run_length(4, 9, 10, &[0x3C, 0xB5])?;
 //! assert_eq!(levels, [3, 3, 3, 3, 3, 3, 3, 3, 3, 5]);
+//! // And back: the longest runs, as codes.
+//! assert_eq!(cleatmow::write_run_length(4, 9, &levels)?, [0x3C, 0xB5]);
 //! # Ok::<(), cleatmow::Refusal>(())
 //! ```
 //!
@@ -154,7 +156,9 @@ pub use packing::{
 };
 pub use points::{NoNumber, Point, Points, POINT_OCTETS};
 pub use refusal::Refusal;
-pub use run_length::{run_length, run_length_into, Levels, LEVEL_OCTETS};
+pub use run_length::{
+    levels_as_octets, run_length, run_length_into, write_run_length, write_run_length_into, Levels, LEVEL_OCTETS,
+};
 pub use section::NotSection;
 pub use section5::{Physical, Section5, TemplateNumbers};
 pub use section7::{payload_of, section7_of};
@@ -179,4 +183,23 @@ fn lent(declared: u32) -> usize {
     } else {
         declared as usize
     }
+}
+
+/// As much of a list as shows whether it is above the limit, and for how many to lend: none above it, since the refusal
+/// for the list (13) comes before the one for the room (10).
+fn up_to<T>(most: u32, list: &[T]) -> (&[T], usize) {
+    let most = most as usize;
+    match list.get(..most + 1) {
+        Some(above) => (above, 0),
+        None => (list, list.len()),
+    }
+}
+
+/// A list in octets, as a call is given it.
+fn in_octets<T: Copy, const OCTETS: usize>(list: &[T], octets_of: impl Fn(T) -> [u8; OCTETS]) -> Vec<u8> {
+    let mut octets = vec![0; list.len() * OCTETS];
+    for (place, one) in octets.chunks_exact_mut(OCTETS).zip(list) {
+        place.copy_from_slice(&octets_of(*one));
+    }
+    octets
 }

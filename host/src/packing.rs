@@ -1,7 +1,7 @@
 //! Grouping and packing: a list of numbers becomes the payload of template 5.2.
 
 use crate::filled::One;
-use crate::{ffi, Filled, InOctets, NoNumber, Point, Refusal, Template};
+use crate::{ffi, in_octets, up_to, Filled, InOctets, NoNumber, Point, Refusal, Template};
 use std::borrow::Borrow;
 
 /// The greatest count of numbers that a list to pack has.
@@ -117,10 +117,7 @@ impl<'a> Packed<'a> {
 ///
 /// [`Refusal::Numbers`].
 pub fn pack(numbers: &[u32], lookahead: u32) -> Result<Packing, Refusal> {
-    // One number above the limit is refused as all of them would be, and that comes before the room is looked at.
-    let most = MOST_NUMBERS as usize;
-    let numbers = &numbers[..numbers.len().min(most + 1)];
-    let count = if numbers.len() > most { 0 } else { numbers.len() };
+    let (numbers, count) = up_to(MOST_NUMBERS, numbers);
     // Each group has a number at least.
     let mut groups = vec![0; count * GROUP_OCTETS];
     let mut payload = vec![0; most_payload(count)];
@@ -172,11 +169,7 @@ pub fn pack_into<'a>(
 
 /// A list of numbers as [`pack_into`] is given it, [`NUMBER_OCTETS`] each.
 pub fn numbers_as_octets(numbers: &[u32]) -> Vec<u8> {
-    let mut octets = vec![0; numbers.len() * NUMBER_OCTETS];
-    for (place, number) in octets.chunks_exact_mut(NUMBER_OCTETS).zip(numbers) {
-        place.copy_from_slice(&number.to_be_bytes());
-    }
-    octets
+    in_octets(numbers, u32::to_be_bytes)
 }
 
 /// The numbers of points as packing takes them, in the same order. The points are a list, or the view of a call on lent

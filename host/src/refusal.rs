@@ -34,7 +34,8 @@ pub enum Refusal {
     /// A restored number is beyond 2^60 either way.
     Beyond = 12,
     /// Packing: list empty or above 4,194,304 numbers, a number above 2,147,483,647, lookahead outside 1 to 65,535.
-    /// Writing Section 5: a number that its octets do not hold.
+    /// Writing Section 5: a number that its octets do not hold. Writing run-length: a level above M, or more than
+    /// 4,194,304 levels.
     Numbers = 13,
     /// Section 5: fewer octets or fields than its template has (fewer than eleven octets name none), a length that is
     /// not its template's, a section number other than 5, or a template other than 5.2 and 5.3; for one point, other
@@ -127,7 +128,8 @@ impl Refusal {
             Refusal::Numbers => {
                 "the numbers cannot be packed: there are none or more than 4,194,304 of them, \
                  one is above 2,147,483,647, or the lookahead is not 1 to 65,535; \
-                 or a number does not fit its octets of Section 5"
+                 or a number does not fit its octets of Section 5; \
+                 or levels cannot be written: there are more than 4,194,304 of them, or one is above the greatest"
             }
             Refusal::Section5 => {
                 "there is no whole Section 5 of template 5.2 or 5.3, or for one point of 5.2: \

@@ -147,6 +147,18 @@ impl Section5 {
         write_section5(&fields).expect("each number has as many octets as its field")
     }
 
+    /// How many octets of a Section 5 of template 5.200 stand before those that say what its levels stand for.
+    pub const BEFORE_LEVEL_VALUES: usize = 14;
+
+    /// The octets of a Section 5 of template 5.200. `values` are those from octet 15 on, which say what its levels stand
+    /// for: the count of the levels' values in two octets, their scale in one, and two for each value. They are taken as
+    /// they are. None where four octets do not hold the length.
+    pub fn of_levels(declared: u32, bits: u8, max_level: u16, values: &[u8]) -> Option<Vec<u8>> {
+        let length = u32::try_from(values.len().checked_add(Section5::BEFORE_LEVEL_VALUES)?).ok()?;
+        let (length, declared, max_level) = (length.to_be_bytes(), declared.to_be_bytes(), max_level.to_be_bytes());
+        Some([&length, &[5][..], &declared, &[0, 200, bits], &max_level, values].concat())
+    }
+
     /// 2, 3 or 200. Octets 10 and 11.
     pub fn template_number(&self) -> u16 {
         match self.numbers {

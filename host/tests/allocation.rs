@@ -1,10 +1,11 @@
 //! What the wrappers allocate, and that the calls on lent octets do not.
 
 use cleatmow::{
-    numbers_as_octets, pack, pack_into, point, read_section5, read_section5_into, run_length, run_length_into, unpack,
-    unpack_complex, unpack_complex_into, unpack_into, unpack_spatial, unpack_spatial_into, write_section5,
-    write_section5_into, Differences, Fields, Physical, Point, Points, Refusal, Section5, Template, FIELD_OCTETS,
-    GROUP_OCTETS, LEVEL_OCTETS, MOST_NUMBERS, MOST_POINTS, NUMBER_OCTETS, POINT_OCTETS, SUMMARY_OCTETS,
+    levels_as_octets, numbers_as_octets, pack, pack_into, point, read_section5, read_section5_into, run_length,
+    run_length_into, unpack, unpack_complex, unpack_complex_into, unpack_into, unpack_spatial, unpack_spatial_into,
+    write_run_length, write_run_length_into, write_section5, write_section5_into, Differences, Fields, Physical, Point,
+    Points, Refusal, Section5, Template, FIELD_OCTETS, GROUP_OCTETS, LEVEL_OCTETS, MOST_NUMBERS, MOST_POINTS,
+    NUMBER_OCTETS, POINT_OCTETS, SUMMARY_OCTETS,
 };
 use std::alloc::{GlobalAlloc, Layout, System};
 use std::cell::Cell;
@@ -152,11 +153,35 @@ fn what_packing_asks_for() {
     assert_eq!(largest, 1_000 * GROUP_OCTETS);
 }
 
+/// Of a list above the limit as much is handed on as shows that it is, and no payload is lent; nor for bits that are
+/// refused. Else the octets of the levels, as many as are always enough, and what is answered.
+#[test]
+fn what_writing_levels_asks_for() {
+    let most = MOST_POINTS as usize;
+    for more in [1, 2, 1_000_000] {
+        let levels = vec![0; most + more];
+        let refused = asked(|| assert_eq!(write_run_length(4, 9, &levels), Err(Refusal::Numbers)));
+        assert_eq!(refused, (1, (most + 1) * LEVEL_OCTETS), "{more} more");
+    }
+    let levels = vec![1; 1_000];
+    for bits in [0, 16, 255] {
+        let refused = asked(|| assert_eq!(write_run_length(bits, 9, &levels), Err(Refusal::Width)));
+        assert_eq!(refused, (1, 1_000 * LEVEL_OCTETS), "b {bits}");
+    }
+    let answered = |octets| move |payload: Vec<u8>| (payload.len(), payload.capacity()) == (octets, octets);
+    // Base 2, so that 999 are ten digits; and base 0.
+    let run = asked(|| assert!(write_run_length(4, 13, &levels).is_ok_and(answered(6))));
+    assert_eq!(run, (3, 1_000 * LEVEL_OCTETS));
+    let each = asked(|| assert!(write_run_length(15, 32_767, &levels).is_ok_and(answered(1_875))));
+    assert_eq!(each, (3, 1_000 * LEVEL_OCTETS));
+}
+
 #[test]
 fn calls_on_lent_octets_allocate_nothing() {
     let payload = vec![0x53; 3_000];
     let mut points = vec![0; 8_000 * POINT_OCTETS];
     let mut levels = vec![0; 3_000 * LEVEL_OCTETS];
+    let (runs, mut runs_written) = (levels_as_octets(&[3, 3, 3, 3, 3, 3, 3, 3, 3, 5]), [0; 5]);
     let beyond = Template { number_width: 31, width_reference: 0, ..template(40_000) };
     let mut many = vec![0; 40_000 * POINT_OCTETS];
     let far = [0, 0, 0, 0, 0, 0, 0, 0, 0, 0, 0, 0, 0xFF, 0xFF, 0xFF, 0xF0];
@@ -195,6 +220,11 @@ fn calls_on_lent_octets_allocate_nothing() {
         assert_eq!(unpack_spatial_into(&beyond, &second, 40_000, &far, &mut many), Err(Refusal::Beyond));
         let all = run_length_into(8, 200, 3_000, &payload, &mut levels).unwrap();
         assert_eq!(all.iter().count(), 3_000);
+        // Answers 0, 5, 13 and 10.
+        assert_eq!(write_run_length_into(4, 9, &runs, &mut runs_written), Ok(&[0x3C, 0xB5][..]));
+        assert_eq!(write_run_length_into(4, 16, &runs, &mut runs_written), Err(Refusal::Width));
+        assert_eq!(write_run_length_into(4, 4, &runs, &mut runs_written), Err(Refusal::Numbers));
+        assert_eq!(write_run_length_into(4, 9, &runs, &mut runs_written[4..]), Err(Refusal::Room));
         // Answers 0, 13, and 10 for each of the three.
         let mut packed = |lookahead, slots: usize, room: usize, forty: usize| {
             let (groups, payload) = (&mut groups[..slots * GROUP_OCTETS], &mut points[..room]);

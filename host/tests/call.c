@@ -144,6 +144,42 @@ static int run_length(void) {
     return 0;
 }
 
+static int write_run_length(void) {
+    /* Nine times 3, 5, and a spare octet. */
+    const uint8_t list[] = {0, 3, 0, 3, 0, 3, 0, 3, 0, 3, 0, 3, 0, 3, 0, 3, 0, 3, 0, 5, 9};
+    const uint8_t written[] = {0x3C, 0xB5}, padded[] = {0x3C, 0x50}, repeated[] = {0x33, 0x35};
+    static uint8_t many[(CLEATMOW_MOST_POINTS + 1) * CLEATMOW_LEVEL_OCTETS];
+    uint8_t payload[5], levels[10 * CLEATMOW_LEVEL_OCTETS];
+    uint32_t counts[] = {0xEEEEEEEE, 0xEEEEEEEE, 0xEEEEEEEE};
+    const size_t room = sizeof payload;
+    memset(payload, 0xEE, room);
+
+#define WRITE(bits, max_level, list, len, lent) \
+    cleatmow_write_run_length(bits, max_level, list, len, payload, lent, counts + 1)
+    EXPECT(WRITE(0, 9, list, 21, room) == CLEATMOW_REFUSAL_WIDTH);
+    EXPECT(WRITE(16, 9, list, 21, room) == CLEATMOW_REFUSAL_WIDTH);
+    EXPECT(WRITE(4, 16, list, 0, 0) == CLEATMOW_REFUSAL_WIDTH);
+    EXPECT(WRITE(4, 4, list, 21, 0) == CLEATMOW_REFUSAL_NUMBERS);
+    EXPECT(WRITE(4, 9, many, sizeof many, 0) == CLEATMOW_REFUSAL_NUMBERS);
+    EXPECT(WRITE(4, 9, list, 21, 1) == CLEATMOW_REFUSAL_ROOM);
+    EXPECT(is_all(payload, room, 0xEE) && counts[1] == 0xEEEEEEEE);
+
+    EXPECT(WRITE(4, 9, list, 21, room) == 0 && counts[1] == 2);
+    EXPECT(memcmp(payload, written, 2) == 0 && is_all(payload + 2, room - 2, 0xEE));
+    EXPECT(cleatmow_run_length(4, 9, 10, payload, counts[1], levels, sizeof levels) == 0);
+    EXPECT(memcmp(levels, list, sizeof levels) == 0);
+    EXPECT(WRITE(4, 9, list + 12, 8, 2) == 0 && counts[1] == 2 && memcmp(payload, padded, 2) == 0);
+    EXPECT(WRITE(4, 14, list + 12, 8, 2) == 0 && counts[1] == 2 && memcmp(payload, repeated, 2) == 0);
+    EXPECT(WRITE(4, 9, many, sizeof many - 2, room) == 0 && counts[1] == 5);
+    EXPECT(counts[0] == 0xEEEEEEEE && counts[2] == 0xEEEEEEEE);
+
+    /* An empty list and an empty buffer, as null pointers. */
+    EXPECT(cleatmow_write_run_length(4, 9, NULL, 0, NULL, 0, counts + 1) == 0 && counts[1] == 0);
+    EXPECT(cleatmow_write_run_length(4, 16, NULL, 0, NULL, 0, counts + 1) == CLEATMOW_REFUSAL_WIDTH);
+    EXPECT(cleatmow_write_run_length(4, 9, list, 2, NULL, 0, counts + 1) == CLEATMOW_REFUSAL_ROOM && counts[1] == 0);
+    return 0;
+}
+
 /* Numbers of four octets each, big-endian. */
 static int are_numbers(const uint8_t *octets, size_t count, const uint32_t *numbers) {
     size_t i;
@@ -341,6 +377,7 @@ int main(void) {
     if (line == 0) line = unpack_complex();
     if (line == 0) line = unpack_spatial();
     if (line == 0) line = run_length();
+    if (line == 0) line = write_run_length();
     if (line == 0) line = pack();
     if (line == 0) line = section5();
     if (line == 0) line = unpack();

@@ -2,9 +2,10 @@
 
 mod support;
 
-use cleatmow::{run_length, unpack, Point, Refusal, TemplateNumbers};
+use cleatmow::{run_length, unpack, write_run_length, Point, Refusal, TemplateNumbers};
 use std::collections::{BTreeMap, HashSet};
-use support::model::{self, run_length::padding_codes, Input};
+use support::model::run_length::{codes_in, padding_codes};
+use support::model::{self, Input};
 use support::others::{maps, Map, LINES};
 
 /// Unpacks every map of a template, of which the file must have so many, and holds the answers to the file's.
@@ -114,6 +115,53 @@ fn run_length_maps_with_fewer_points_declared() {
         (8, [9, 0, 0, 107, 0]),
     ];
     assert_eq!(by_bits, BTreeMap::from(right));
+}
+
+/// What writing never does, where codes do it: a run goes on with its level once more, though the base is above 1; the last
+/// repeat code of a run is a zero digit.
+fn unlike_writing((bits, max_level): (u8, u16), payload: &[u8]) -> [bool; 2] {
+    let (codes, base) = (codes_in(bits, payload), (1 << bits) - 1 - max_level);
+    let runs: Vec<&[u16]> = codes.chunk_by(|_, next| *next > max_level).collect();
+    let goes_on = runs.windows(2).any(|two| base > 1 && two[0][0] == two[1][0]);
+    [goes_on, runs.iter().any(|run| run.len() > 1 && run.ends_with(&[max_level + 1]))]
+}
+
+/// Document 02, No. 5, on levels of others: written again they are read back, and they are the very octets that the other
+/// wrote but where these do what writing never does. ecCodes does none of it.
+#[test]
+fn levels_of_run_length_maps_written_again() {
+    // Those of ecCodes and those by hand: maps, the same octets, and for each thing that writing never does.
+    let mut counts = [[0; 4]; 2];
+    for map in maps().iter().filter(|map| map.template == 200 && map.refusal.is_none()) {
+        let ((bits, max_level), declared) = (coding(map), map.section5.declared);
+        let levels = run_length(bits, max_level, declared, &map.payload).unwrap();
+        let written = write_run_length(bits, max_level, &levels).unwrap();
+        assert!(run_length(bits, max_level, declared, &written) == Ok(levels), "{}", map.id);
+        let (same, unlike) = (written == map.payload, unlike_writing((bits, max_level), &map.payload));
+        assert_eq!(same, unlike == [false; 2], "{}: {written:02X?} for {:02X?}", map.id, map.payload);
+        let [of_ecc, by_hand] = &mut counts;
+        let counts = if map.id.starts_with("ecc") { of_ecc } else { by_hand };
+        for (count, counted) in counts.iter_mut().zip([&[true, same], &unlike[..]].concat()) {
+            *count += u32::from(counted);
+        }
+    }
+    println!("maps, the same octets, a level once more, a zero digit at the top: {counts:?}");
+    assert_eq!(counts, [[10, 10, 0, 0], [14, 3, 5, 10]]);
+}
+
+/// ecCodes leaves out the last octet where codes do not fill it: its maps that are 9 here, and all of one level, 0.
+#[test]
+fn run_length_maps_without_their_last_octet() {
+    let of_ecc = |map: &&Map| map.template == 200 && map.id.starts_with("ecc") && map.refusal == Some(Refusal::Points);
+    let (maps, mut held) = (maps(), 0);
+    for map in maps.iter().filter(of_ecc) {
+        let ((bits, max_level), declared) = (coding(map), map.section5.declared);
+        assert!(map.has(&vec![Point::Number(0); declared as usize]), "{}", map.id);
+        let written = write_run_length(bits, max_level, &vec![0; declared as usize]).unwrap();
+        assert_eq!(written[..written.len() - 1], map.payload, "{}", map.id);
+        held += 1;
+    }
+    assert_eq!(held, 3);
 }
 
 #[test]

@@ -1,5 +1,5 @@
-//! Run-length through the C call, against document 01 and document 02, No. 4: their cases, limits, lent buffers, and a
-//! plain model.
+//! Reading run-length maps through the C call, against document 01 and document 02, No. 4: their cases, limits, lent
+//! buffers, and a plain model.
 
 mod support;
 

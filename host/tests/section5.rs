@@ -47,6 +47,17 @@ fn each_number_is_at_its_octets() {
     }
 }
 
+/// Of template 5.200, from what is read of it and from what is not.
+#[test]
+fn a_section_5_of_levels() {
+    for count in [17, 19, 255] {
+        let octets = section(200, count);
+        let values = &octets[Section5::BEFORE_LEVEL_VALUES..];
+        assert_eq!(values[0], 15);
+        assert_eq!(Section5::of_levels(0x0607_0809, 12, 0x0D0E, values).as_ref(), Some(&octets));
+    }
+}
+
 /// Nothing that unpacking has a refusal for is refused here.
 #[test]
 fn numbers_are_not_judged() {

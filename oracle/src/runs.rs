@@ -1,5 +1,6 @@
 //! The documents' reading of a run-length payload, written plainly for the programs here: they have to know how many
-//! points an input has before they let the Rust store them, and whether the Rust can judge it at all.
+//! points an input has before they let the Rust store them, and whether the Rust can judge it at all. And their writing,
+//! which the Rust does not have.
 
 use crate::dice::Dice;
 
@@ -113,6 +114,24 @@ impl Coding {
             let three = octet(first) << 16 | octet(first + 1) << 8 | octet(first + 2);
             (three >> (24 - start - width) & ((1 << width) - 1)) as u16
         })
+    }
+
+    /// Document 02, No. 5: "each longest run is its level and then the run length less one in digits of the base, least
+    /// first, no leading zero digit at the top, none at all for a run of one. Where the base is below 2, a run repeats its
+    /// level instead. Pad with zero bits."
+    pub fn written(self, levels: &[u16]) -> Vec<u8> {
+        let run = |run: &[u16]| self.run(run[0], run.len() as u64);
+        self.payload_of(&levels.chunk_by(u16::eq).flat_map(run).collect::<Vec<u16>>())
+    }
+
+    /// The codes of one run.
+    pub fn run(self, level: u16, length: u64) -> Vec<u16> {
+        if self.base() < 2 {
+            return vec![level; length as usize];
+        }
+        let digits = std::iter::successors(Some(length - 1), |left| Some(left / self.base()));
+        let digits = digits.take_while(|left| *left > 0).map(|left| self.repeat(left % self.base()));
+        [level].into_iter().chain(digits).collect()
     }
 
     /// These codes end to end. The spare bits of the last octet are zero, and may be codes beyond them.

@@ -5,7 +5,7 @@
 
 use cleatmow::{
     Packing, SUMMARY_OCTETS, numbers_as_octets, pack, pack_into, run_length, run_length_into, unpack_complex_into,
-    unpack_spatial_into,
+    unpack_spatial_into, write_run_length, write_run_length_into,
 };
 use oracle::Outcome::{self, Answer, Panicked, Refused};
 use oracle::Point::{self, Missing1, Number};
@@ -140,6 +140,47 @@ fn each_difference_of_run_length_is_as_it_is_written() {
     }
     hold("37, 8 bits are left", (4, 9, 2, &[0x30, 0]), Err(9), mismatch());
     hold("37, not all zero", (3, 7, 3, &[0xff, 0x81]), Err(9), mismatch());
+}
+
+/// 38: the Rust has no writer. What ours writes it reads, but where the padding has room for a code.
+#[test]
+fn what_is_written_is_read_by_the_rust() {
+    type List<'a> = (u8, u16, &'a [u16]);
+    let hold = |number: &str, list: List, payload: &[u8], rust: Outcome<Vec<u16>>| {
+        let (bits, max_level, levels) = list;
+        assert_eq!(write_run_length(bits, max_level, levels).as_deref(), Ok(payload), "{number}: document 02");
+        let read = run_length(bits, max_level, levels.len() as u32, payload);
+        assert!(read.as_deref() == Ok(levels), "{number}: ours reads");
+        assert!(oracle::run_length(bits, max_level, levels.len(), payload) == rust, "{number}: the Rust reads");
+    };
+    let mismatch = || Refused("LengthMismatch".into());
+    hold("38", (1, 0, &[0]), &[0], mismatch());
+    hold("38, no room for a code", (1, 0, &[0; 8]), &[0], Answer(vec![0; 8]));
+    hold("38, no room from b 8 on", (8, 0, &[0]), &[0], Answer(vec![0]));
+    hold("38, a case", (4, 9, &[3, 3, 3, 5]), &[0x3c, 0x50], mismatch());
+    hold("38, one level more", (4, 9, &[3, 3, 3, 5, 0]), &[0x3c, 0x50], Answer(vec![3, 3, 3, 5, 0]));
+    hold("38, no list", (1, 0, &[]), &[], Answer(vec![]));
+    // Whatever else: a code a level, so many of them.
+    for bits in 1..=15 {
+        let greatest = (1 << bits) - 1;
+        for levels in (1..=40).map(|count| vec![greatest; count]) {
+            let payload = write_run_length(bits, greatest, &levels).expect("good levels");
+            let spare = 8 * payload.len() - levels.len() * usize::from(bits);
+            let rust = if spare < usize::from(bits) { Answer(levels.clone()) } else { mismatch() };
+            hold("38, padding of every length", (bits, greatest, &levels), &payload, rust);
+        }
+    }
+    // The greatest weights that are written fit the Rust's `usize`. From b 8 on the padding has no room for a code.
+    for (bits, max_level) in [(8, 0), (8, 127), (8, 253), (15, 0)] {
+        let levels = vec![0; 4_194_304];
+        let payload = write_run_length(bits, max_level, &levels).expect("good levels");
+        hold("38, the longest run", (bits, max_level, &levels), &payload, Answer(levels.clone()));
+    }
+    let refused = |bits, max_level, levels: &[u16]| write_run_length(bits, max_level, levels).map_err(|r| r.number());
+    assert_eq!((refused(0, 0, &[]), refused(1, 2, &[]), refused(1, 0, &[1])), (Err(5), Err(5), Err(13)), "38");
+    assert_eq!(refused(1, 0, &vec![0; 4_194_305]), Err(13), "38");
+    let short = write_run_length_into(1, 0, &[0, 0], &mut []).map_err(|refusal| refusal.number());
+    assert_eq!(short, Err(10), "38");
 }
 
 /// What the Rust makes of an input.

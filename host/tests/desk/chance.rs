@@ -4,7 +4,7 @@ use crate::support::maps::Numbers;
 use crate::*;
 
 /// Results, or one sentence and a status that the documents or the desk give.
-fn hold(ran: &Ran, input: &dyn Fn() -> String) -> usize {
+pub fn hold(ran: &Ran, input: &dyn Fn() -> String) -> usize {
     let status = ran.status.unwrap_or_else(|| panic!("{}: {ran:?}", input())) as usize;
     assert!(status <= 14 || (64..=67).contains(&status), "{}: {ran:?}", input());
     let lines = (ran.out.is_empty(), ran.err.lines().count());

@@ -43,7 +43,7 @@ fn files_that_are_no_map() {
             changed(&good5, 10, 200),
             good7.clone(),
             refused(
-                "Section 5 is of template 5.200: what its levels stand for is not read here, so the desk shows none",
+                "Section 5 is of template 5.200: what its levels stand for is not read here, and desk levels alone shows them",
             ),
         ),
         // A refusal comes before what is wrong with Section 7.

@@ -231,7 +231,7 @@ fn fields_with_a_bitmap() {
     assert_eq!(names_in(&folder), ["map.grib2"]);
 }
 
-/// Templates that are not read are named. Levels are not shown, and can be split off.
+/// Templates that are not read are named. Levels are shown by themselves alone, and can be split off.
 #[test]
 fn fields_of_other_templates() {
     let folder = scratch("templates");
@@ -248,13 +248,17 @@ fn fields_of_other_templates() {
     let levels = section(5, &[0, 0, 0, 10, 0, 200, 4, 0, 9, 0, 0, 0]);
     let runs = vec![section4(), levels.clone(), section6(255), section7(&[0x3C, 0xB5])];
     write(&folder, "map.grib2", &of(section3(0, 5, 2, 0), runs));
-    let why = "Section 5 is of template 5.200: what its levels stand for is not read here, so the desk shows none";
+    let why =
+        "Section 5 is of template 5.200: what its levels stand for is not read here, and desk levels alone shows them";
     assert_eq!(told(&folder, &["unpack", "map.grib2"], NO_SECTION5), no_section5("map.grib2", why));
     assert!(results(&folder, &["list", "map.grib2"])
         .replace("\n        ", " ")
-        .contains("; its levels are not shown\n"));
+        .contains("; desk levels shows its levels\n"));
     assert_eq!(names_in(&folder), ["map.grib2"]);
+    let shown = results(&folder, &["levels", "map.grib2"]);
+    assert!(shown.starts_with("# levels, not gusts: bits 4, greatest level 9, points 10\n"), "{shown}");
     results(&folder, &words("split map.grib2 --to levels"));
+    assert_eq!(results(&folder, &["levels", "levels"]), shown);
     assert_eq!(fs::read(folder.join("levels.s5")).unwrap(), levels);
     assert_eq!(fs::read(folder.join("levels.s7")).unwrap(), section7(&[0x3C, 0xB5]));
 }

@@ -5,6 +5,7 @@ mod check;
 mod day;
 mod files;
 mod grib2_files;
+mod levels;
 mod maps;
 mod output;
 mod site;

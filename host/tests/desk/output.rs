@@ -33,14 +33,17 @@ fn standard_output_that_fails_after_writing() {
     let folder = scratch("after-writing");
     let message = GUST.file("grib2").display().to_string();
     let Ok(full) = full() else { return };
-    for line in [format!("pack {message} --to cut"), format!("split {message} --to whole")] {
+    fs::write(folder.join("text"), "# levels, not gusts: bits 4, greatest level 9, points 1\n3\n").unwrap();
+    let levels = "levels --write text --to levels".to_string();
+    for line in [format!("pack {message} --to cut"), format!("split {message} --to whole"), levels] {
         let ran = Ran::from(command(&folder, &words(&line)).stdout(full.try_clone().unwrap()).output().unwrap());
         let name = line.rsplit(' ').next().unwrap();
         let stand = format!("{name}.s5 and {name}.s7 stand all the same");
         let full = "desk: standard output cannot be written: No space left on device (os error 28)";
         assert_eq!((ran.status, ran.err), (Some(HOST), format!("{full}; {stand}\n")));
     }
-    assert_eq!(names_in(&folder), ["cut.s5", "cut.s7", "whole.s5", "whole.s7"]);
+    let written = ["cut.s5", "cut.s7", "levels.s5", "levels.s7", "text", "whole.s5", "whole.s7"];
+    assert_eq!(names_in(&folder), written);
     results(&folder, &words("check cut --lookahead 4"));
 }
 

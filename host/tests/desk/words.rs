@@ -49,6 +49,15 @@ fn words_that_are_no_command() {
             said("no cut-out that the desk packed alternates: --alternate is wrong"),
         ),
         (said("split map"), said("--to is missing")),
+        (said("levels"), said("the map is missing")),
+        (said("levels map map"), said("map is one word too many")),
+        (said("levels map --to cut"), said("--to is said without --write")),
+        (said("levels --to cut"), said("--to is said without --write")),
+        (said("levels --write"), said("--write needs a value")),
+        (said("levels --write text"), said("--to is missing")),
+        (said("levels --write text --to ."), said("--to . names no file")),
+        (said("levels map --write text --to cut"), said("map is one word too many")),
+        (said("levels map --lookahead 4"), no_option("levels", "--lookahead")),
         (said(pack), said("--to is missing")),
         (said("pack --columns 4 --rows 1 --to cut"), said("the map is missing")),
         (format!("{pack} --to"), said("--to needs a value")),
@@ -133,7 +142,7 @@ fn words_in_other_forms() {
     );
 }
 
-const COMMANDS: [&str; 8] = ["list", "info", "unpack", "point", "check", "pack", "split", "day"];
+const COMMANDS: [&str; 9] = ["list", "info", "unpack", "point", "check", "pack", "levels", "split", "day"];
 
 #[test]
 fn help_says_everything() {
@@ -184,7 +193,9 @@ fn examples_of_the_help() {
         example.lines().next().unwrap().to_string()
     };
     // A cut-out is packed before it is read.
-    for command in ["list", "info", "unpack", "pack", "check", "point", "split", "day"] {
+    let rain = "# levels, not gusts: bits 4, greatest level 9, points 3\n3\n3\n5\n";
+    fs::write(folder.join("rain.txt"), rain).unwrap();
+    for command in ["list", "info", "unpack", "pack", "check", "point", "levels", "split", "day"] {
         assert!(!results(&folder, &words(&example(command))).is_empty(), "{command}");
     }
 }

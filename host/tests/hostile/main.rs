@@ -14,6 +14,7 @@ mod section5;
 #[path = "../support/mod.rs"]
 mod support;
 mod unpacking;
+mod write_run_length;
 
 use damage::Chance;
 use std::collections::{BTreeMap, HashSet};
@@ -46,8 +47,10 @@ trait Operation {
 
 /// What a call is given.
 trait Input: Debug {
-    /// What its lent buffers' places in memory are multiples of: octets stand anywhere, a value of several does not.
-    const LENT_AT: usize = 1;
+    /// What a lent buffer's place in memory is a multiple of: octets stand anywhere, a value of several does not.
+    fn lent_at(_buffer: usize) -> usize {
+        1
+    }
 
     /// The octets that it reads, for each of its buffers.
     fn read(&self) -> Vec<&[u8]>;
@@ -102,14 +105,28 @@ fn pattern(octets: usize, flip: u8) -> impl Iterator<Item = u8> {
     (0..octets).map(move |place| (place as u8).wrapping_mul(37) ^ flip)
 }
 
+/// A whole number of some size.
+trait Whole {}
+
+impl Whole for u32 {}
+impl Whole for i64 {}
+
+/// The number that stands in these octets, for a call that is lent a value.
+fn value<T: Whole>(octets: &mut [u8]) -> &mut T {
+    // SAFETY: any octets are a number, as many as it has.
+    match unsafe { octets.align_to_mut() } {
+        ([], [number], []) => number,
+        _ => panic!("the octets of a number are not where one may stand"),
+    }
+}
+
 /// Makes a call twice, on a pattern and on its complement, so that no stray store goes unseen and an answer that depends
 /// on octets outside does not stay the same. Answers the documents' class, or what is not as it should be.
 fn held<I: Input>(input: &I, guard: usize) -> Result<Class, String> {
     let [first, second] = [0, 0xFF].map(|flip| {
         let mut read: Vec<Block> = input.read().into_iter().map(|octets| Block::new(octets, guard, flip)).collect();
-        let lent_guard = guard.next_multiple_of(I::LENT_AT);
-        let mut lent: Vec<Block> =
-            input.lent().into_iter().map(|octets| Block::lent(octets, lent_guard, flip)).collect();
+        let block = |(buffer, octets)| Block::lent(octets, guard.next_multiple_of(I::lent_at(buffer)), flip);
+        let mut lent: Vec<Block> = input.lent().into_iter().enumerate().map(block).collect();
         let (read_before, mut right) = (read.clone(), lent.clone());
         let class = input.right(&mut right);
         let called = catch_unwind(AssertUnwindSafe(|| input.call(&mut read, &mut lent)));
@@ -191,6 +208,7 @@ fn run_all(inputs: u64, around: Around) {
         run(&section5::Write::new(), inputs, seed, around),
         run(&section5::Unpack::new(), inputs, seed, around),
         run(&point::OnePoint::new(), inputs, seed, around),
+        run(&write_run_length::WriteRunLength::new(), inputs, seed, around),
     ];
     let how = match around {
         Around::Guards => "guard octets about every buffer",

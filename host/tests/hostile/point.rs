@@ -5,7 +5,7 @@ use crate::section5::damage_section;
 use crate::support::model::point::{at, call, map};
 use crate::support::model::section5::{input, of_map};
 use crate::unpacking::{class, Complex, Spatial, Unpacking, GROUP_FIELDS, VALUES};
-use crate::{Block, Class, Input, Operation};
+use crate::{value, Block, Class, Input, Operation};
 use cleatmow::{point, Refusal};
 
 /// Good maps. Those under 5.3 are none to this call.
@@ -54,7 +54,9 @@ pub struct Asked {
 }
 
 impl Input for Asked {
-    const LENT_AT: usize = align_of::<i64>();
+    fn lent_at(buffer: usize) -> usize {
+        [1, align_of::<i64>()][buffer]
+    }
 
     fn read(&self) -> Vec<&[u8]> {
         vec![&self.section5, &self.payload]
@@ -88,14 +90,5 @@ impl Input for Asked {
             }
             Err(number) => input(section5, payload).map_or((number, ""), |map| class(number, &map)),
         }
-    }
-}
-
-/// The number that stands in these octets.
-fn value(octets: &mut [u8]) -> &mut i64 {
-    // SAFETY: any eight octets are a number.
-    match unsafe { octets.align_to_mut() } {
-        ([], [number], []) => number,
-        _ => panic!("the octets of a number are not where one may stand"),
     }
 }

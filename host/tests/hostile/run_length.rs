@@ -2,7 +2,7 @@
 
 use crate::damage::{self, Chance, DECLARED};
 use crate::support::maps::{rain, Numbers};
-use crate::support::model::run_length::{answer, call, coded, good, padding_codes, points, run, runs};
+use crate::support::model::run_length::{answer, call, coded, codes_of, good, padding_codes, points, runs};
 use crate::support::{model, others};
 use crate::unpacking::real_maps;
 use crate::{Block, Class, Input, Operation, ACCEPTED};
@@ -12,7 +12,7 @@ use cleatmow::{TemplateNumbers, LEVEL_OCTETS};
 const BEFORE_PADDING: Class = (0, "before padding");
 
 /// Good maps, each with its own count declared.
-pub struct RunLength(Vec<Map>);
+pub struct RunLength(pub Vec<Map>);
 
 #[derive(Clone, Debug, PartialEq)]
 pub struct Map {
@@ -70,12 +70,8 @@ impl Operation for RunLength {
 fn damage(chance: &mut Chance, map: &mut Map) {
     match chance.below(18) {
         0..=9 => damage::octets(chance, &mut map.payload),
-        10 => damage::octet(chance, &mut map.bits, &[0, 1, 2, 15, 16, 17, 255]),
-        11 => {
-            let beyond = 1 << (map.bits % 16);
-            let limits = [0, 1, beyond - 1, beyond, beyond.max(2) - 2, u16::MAX.into()];
-            map.max_level = damage::number(chance, map.max_level.into(), 16, &limits) as u16;
-        }
+        10 => damage_bits(chance, &mut map.bits),
+        11 => damage_max_level(chance, map.bits, &mut map.max_level),
         12 | 13 => damage::long(chance, &mut map.declared, &DECLARED),
         _ => {
             // Zero bits at the end, as far as they can be padding.
@@ -87,10 +83,27 @@ fn damage(chance: &mut Chance, map: &mut Map) {
     }
 }
 
+pub fn damage_bits(chance: &mut Chance, bits: &mut u8) {
+    damage::octet(chance, bits, &[0, 1, 2, 15, 16, 17, 255]);
+}
+
+pub fn damage_max_level(chance: &mut Chance, bits: u8, max_level: &mut u16) {
+    let beyond = 1 << (bits % 16);
+    let limits = [0, 1, beyond - 1, beyond, beyond.max(2) - 2, u16::MAX.into()];
+    *max_level = damage::number(chance, (*max_level).into(), 16, &limits) as u16;
+}
+
 impl Map {
     /// The points that it has; 0 where it is refused before they are counted.
     fn count(&self) -> u128 {
         runs(self.bits, self.max_level, &self.payload).map_or(0, |runs| points(&runs))
+    }
+
+    /// b, M and its levels.
+    pub fn levels(&self) -> (u8, u16, Vec<u16>) {
+        let runs = runs(self.bits, self.max_level, &self.payload).expect("a good map");
+        let levels = runs.into_iter().flat_map(|(level, length)| vec![level; length as usize]);
+        (self.bits, self.max_level, levels.collect())
     }
 
     /// The codes at its end that may be left unread; 0 where it is refused before they are counted.
@@ -174,7 +187,5 @@ fn part(chance: &mut Chance, levels: &[u16]) -> Map {
     let bits = least_bits + chance.below(16 - least_bits);
     let max_level = usize::from(greatest) + chance.below((1 << bits) - 2 - usize::from(greatest));
     let (bits, max_level) = (bits as u8, max_level as u16);
-    let codes: Vec<u16> =
-        levels.chunk_by(u16::eq).flat_map(|levels| run(bits, max_level, levels[0], levels.len() as u32)).collect();
-    Map { bits, max_level, declared: 0, payload: coded(bits, &codes) }
+    Map { bits, max_level, declared: 0, payload: coded(bits, &codes_of(bits, max_level, &levels)) }
 }

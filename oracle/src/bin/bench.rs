@@ -2,7 +2,8 @@
 //! timed.
 //!
 //! `bench [OPERATION] [--points N]` times one operation or all, on maps of N points, 1,000,000 without the option.
-//! `run_length_1000` has a map of 1,000 points, and makes many calls in one timing, since one takes too little.
+//! Those that end with `_1000` have a map of 1,000 points, and make many calls in one timing, since one takes too little.
+//! Those that begin with `write_` write the levels of a run-length map, beside reading it.
 //! Those that begin with `real_` unpack the real maps of samples/, which have the points that they have. Those that
 //! begin with `section5_` unpack by the octets of Section 5, beside the call with typed numbers. Those that begin with
 //! `point_` read one point, the first of a map, the middle or the last, beside the unpacking of all of it. Those that
@@ -35,9 +36,9 @@ mod bench {
 
     use cleatmow::{
         GREATEST_LOOKAHEAD, GROUP_OCTETS, Group, LEVEL_OCTETS, MOST_POINTS, NUMBER_OCTETS, POINT_OCTETS, Packing,
-        Point, Points, SUMMARY_OCTETS, Section5, Template, TemplateNumbers, numbers_as_octets, pack, pack_into, point,
-        run_length, run_length_into, unpack, unpack_complex, unpack_complex_into, unpack_into, unpack_spatial,
-        unpack_spatial_into, write_section5,
+        Point, Points, SUMMARY_OCTETS, Section5, Template, TemplateNumbers, levels_as_octets, numbers_as_octets, pack,
+        pack_into, point, run_length, run_length_into, unpack, unpack_complex, unpack_complex_into, unpack_into,
+        unpack_spatial, unpack_spatial_into, write_run_length, write_run_length_into, write_section5,
     };
     use oracle::maps::{self, ComplexMap, RunLengthMap, gust_differences, gust_numbers, gusts, rain};
     use oracle::{Outcome, Packed, Section7, rust_pack, rust_run_length, rust_unpack_complex, rust_unpack_spatial};
@@ -54,7 +55,7 @@ mod bench {
 
     /// Every operation, by a name of this program's own. `bench.sh` says which C call, which function of the oracle and
     /// which limit are behind it.
-    const OPERATIONS: [(&str, Run); 35] = [
+    const OPERATIONS: [(&str, Run); 37] = [
         ("run_length", |name, options| {
             bench(name, RunLength::new(options.points, 1), options);
             if options.calls == Calls::Timed {
@@ -62,6 +63,8 @@ mod bench {
             }
         }),
         ("run_length_1000", |name, options| bench(name, RunLength::new(1_000, 500), options)),
+        ("write_run_length", |name, options| bench(name, WriteRunLength::new(options.points, 1), options)),
+        ("write_run_length_1000", |name, options| bench(name, WriteRunLength::new(1_000, 500), options)),
         ("unpack_complex", |name, options| bench(name, Unpacking::new(gusts(options.points)), options)),
         ("unpack_spatial_1", |name, options| bench(name, Unpacking::new(gust_differences(1, options.points)), options)),
         ("unpack_spatial_2", |name, options| bench(name, Unpacking::new(gust_differences(2, options.points)), options)),
@@ -226,6 +229,8 @@ mod bench {
         Typed(u32),
         /// Ours on the whole map, on lent buffers, where one point of it is read.
         Whole(u32),
+        /// Ours, reading the same map on a lent buffer, where its levels are written.
+        Reading(u32),
     }
 
     struct RunLength {
@@ -278,6 +283,70 @@ mod bench {
 
         fn calls(&self) -> usize {
             self.calls
+        }
+    }
+
+    /// Writing the levels of a map, beside reading it.
+    struct WriteRunLength {
+        reading: RunLength,
+        octets: Vec<u8>,
+        payload: Vec<u8>,
+        /// How many octets the last call wrote.
+        written: usize,
+    }
+
+    impl WriteRunLength {
+        fn new(points: u32, calls: usize) -> Self {
+            let reading = RunLength::new(points, calls);
+            let octets = levels_as_octets(&reading.map.levels);
+            // As many as are always enough.
+            let payload = vec![0; (points as usize * usize::from(reading.map.bits)).div_ceil(8)];
+            Self { reading, octets, payload, written: 0 }
+        }
+    }
+
+    impl Operation for WriteRunLength {
+        type Answer = Vec<u8>;
+        type Other = ();
+
+        fn ours_lent(&mut self) {
+            let RunLengthMap { bits, max_level, .. } = self.reading.map;
+            let written = write_run_length_into(bits, max_level, black_box(&self.octets), &mut self.payload);
+            self.written = written.expect("good levels").len();
+            black_box(&mut self.payload);
+        }
+
+        fn ours_new(&self) -> Vec<u8> {
+            let RunLengthMap { bits, max_level, ref levels, .. } = self.reading.map;
+            write_run_length(bits, max_level, black_box(levels)).expect("good levels")
+        }
+
+        fn other(&mut self) {
+            self.reading.ours_lent();
+        }
+
+        fn left(&self) -> Vec<u8> {
+            self.payload[..self.written].to_vec()
+        }
+
+        fn is_right(&self, payload: &Vec<u8>) -> bool {
+            *payload == self.reading.map.payload
+        }
+
+        fn other_is_right(&self, (): &()) -> bool {
+            self.reading.is_right(&self.reading.left())
+        }
+
+        fn size(&self) -> (u32, usize) {
+            self.reading.size()
+        }
+
+        fn calls(&self) -> usize {
+            self.reading.calls
+        }
+
+        fn beside(&self) -> Beside {
+            Beside::Reading(self.size().0)
         }
     }
 
@@ -847,6 +916,10 @@ mod bench {
             Beside::Typed(on) => {
                 let typed = other.report("ours, typed", on);
                 println!("  by Section 5 / by typed numbers, lent buffers, by the medians: {}", ratio(lent, typed));
+            }
+            Beside::Reading(on) => {
+                let reading = other.report("ours, reading", on);
+                println!("  writing / reading, lent buffers, by the medians: {}", ratio(lent, reading));
             }
             Beside::Whole(on) => {
                 let whole = other.report("ours, whole map", on);

@@ -28,6 +28,8 @@ pub enum Command {
     Point(Point),
     Check { map: PathBuf, lookahead: u32 },
     Pack(Pack),
+    Levels { map: PathBuf },
+    WriteLevels { text: PathBuf, to: PathBuf },
     Split { map: PathBuf, to: PathBuf },
 }
 
@@ -212,6 +214,11 @@ impl Words {
                 to: self.to()?,
                 map: self.map()?,
             }),
+            Topic::Levels => match self.value("--write") {
+                Some(text) => Command::WriteLevels { text: text.into(), to: self.to()? },
+                None if self.flag("--to") => return self.wrong("--to is said without --write"),
+                None => Command::Levels { map: self.map()? },
+            },
             Topic::Split => Command::Split { to: self.to()?, map: self.map()? },
         })
     }

@@ -5,14 +5,13 @@ use crate::files;
 use crate::grid::{no_point_at, Grid, Laid, Typed};
 use crate::map::{section5, Map};
 use crate::packing::{check, Packed};
-use crate::progress::step;
+use crate::progress::printing;
 use crate::shown::{self, Number, NO_FORECAST};
-use crate::source::Sections;
+use crate::source::{octets_of, Sections};
 use crate::trouble::Trouble;
 use cleatmow::Points;
 use std::io::{self, Write};
 use std::path::{Path, PathBuf};
-use std::sync::atomic::{AtomicUsize, Ordering};
 
 /// What is said of a map whose sections were not held against each other.
 const NOT_CHECKED: &str =
@@ -34,31 +33,25 @@ pub fn unpack(asked: &Unpack, out: &mut impl Write) -> Result<(), Trouble> {
         (None, Some(said)) => note(&format!("points in the order of the file: {said}")),
         (None, None) => {}
     }
-    let (printed, all) = (AtomicUsize::new(0), shown::many(points.len(), "point"));
-    let print = || -> io::Result<()> {
-        if grid.is_some() {
-            writeln!(out, "row,column,mark,number")?;
-        }
-        for (index, point) in (0..).zip(points) {
-            let (mark, number) = (point.mark(), Number(point, &asked.missing));
-            match (asked.form, grid.map(|grid: Grid| grid.place(index))) {
-                (_, Some(place)) => {
-                    let (row, column) = (u64::from(place.row) + 1, u64::from(place.column) + 1);
-                    writeln!(out, "{row},{column},{mark},{number}")?;
-                }
-                (Form::Marks, None) => writeln!(out, "{mark} {number}")?,
-                (_, None) => writeln!(out, "{number}")?,
+    if grid.is_some() {
+        writeln!(out, "row,column,mark,number")?;
+    }
+    printing(out, "point", points.iter().enumerate(), |out, (index, point)| {
+        let (mark, number) = (point.mark(), Number(point, &asked.missing));
+        match (asked.form, grid.map(|grid: Grid| grid.place(index as u64))) {
+            (_, Some(place)) => {
+                let (row, column) = (u64::from(place.row) + 1, u64::from(place.column) + 1);
+                writeln!(out, "{row},{column},{mark},{number}")
             }
-            printed.fetch_add(1, Ordering::Relaxed);
+            (Form::Marks, None) => writeln!(out, "{mark} {number}"),
+            (_, None) => writeln!(out, "{number}"),
         }
-        out.flush()
-    };
-    step(|| format!("printing, {} of {all}", shown::count(printed.load(Ordering::Relaxed) as u64)), print)?;
+    })?;
     Ok(())
 }
 
 /// A line on standard error that is no error.
-fn note(sentence: &str) {
+pub fn note(sentence: &str) {
     // Where it cannot be written, the results are what matters.
     let _ = writeln!(io::stderr(), "desk: note: {sentence}");
 }
@@ -119,14 +112,17 @@ pub fn pack(asked: &Pack, out: &mut impl Write) -> Result<(), Trouble> {
     let packed = Packed::of(&cut_out, &map.physical, asked.lookahead)?;
     let files = write(&asked.to, &packed.sections)?;
     let mut print = || -> Result<(), Trouble> {
-        let octets = packed.sections.iter().map(|section| section.len() as u64).sum::<u64>();
         line(out, "map", &map.in_full())?;
         line(out, "grid", &laid.grid.in_full())?;
         line(out, "pair", &sections_are(&map, None))?;
         let (grid, lookahead) = (cut_out.grid(), asked.lookahead);
         line(out, "cut-out", &format!("{}: {grid}, {}", cut_out.rectangle, shown::many(grid.points(), "point")))?;
         let groups = shown::many(packed.groups, "group");
-        line(out, "packed", &format!("{groups}, lookahead {lookahead}, {} octets", shown::count(octets)))?;
+        line(
+            out,
+            "packed",
+            &format!("{groups}, lookahead {lookahead}, {} octets", shown::count(octets_of(&packed.sections))),
+        )?;
         line(out, "written", &files)?;
         let Grid { columns, rows, .. } = grid;
         line(out, "on site", &format!("read with --columns {columns} --rows {rows} --lookahead {lookahead}"))?;
@@ -159,7 +155,7 @@ pub fn split(map: &Path, to: &Path, out: &mut impl Write) -> Result<(), Trouble>
 }
 
 /// Writes two sections, and answers the names of their files.
-fn write(to: &Path, [section5, section7]: &[Vec<u8>; 2]) -> Result<String, Trouble> {
+pub fn write(to: &Path, [section5, section7]: &[Vec<u8>; 2]) -> Result<String, Trouble> {
     let files: [PathBuf; 2] = files::write(to, [section5, section7])?;
     Ok(files.map(|file| shown::path(&file)).join(" and "))
 }

@@ -13,13 +13,23 @@ pub enum Topic {
     Point,
     Check,
     Pack,
+    Levels,
     Split,
     Day,
 }
 
 impl Topic {
-    pub const ALL: [Topic; 8] =
-        [Topic::List, Topic::Info, Topic::Unpack, Topic::Point, Topic::Check, Topic::Pack, Topic::Split, Topic::Day];
+    pub const ALL: [Topic; 9] = [
+        Topic::List,
+        Topic::Info,
+        Topic::Unpack,
+        Topic::Point,
+        Topic::Check,
+        Topic::Pack,
+        Topic::Levels,
+        Topic::Split,
+        Topic::Day,
+    ];
 
     pub fn named(name: &str) -> Option<Topic> {
         Topic::ALL.into_iter().find(|topic| topic.name() == name)
@@ -33,6 +43,7 @@ impl Topic {
             Topic::Point => "point",
             Topic::Check => "check",
             Topic::Pack => "pack",
+            Topic::Levels => "levels",
             Topic::Split => "split",
             Topic::Day => "day",
         }
@@ -46,6 +57,7 @@ impl Topic {
             Topic::Point => &["--columns", "--rows", "--column", "--row", "--lookahead"],
             Topic::Check => &["--lookahead"],
             Topic::Pack => &["--columns", "--rows", "--cut-columns", "--cut-rows", "--lookahead", "--to"],
+            Topic::Levels => &["--write", "--to"],
             Topic::Split => &["--to"],
             Topic::Day => &["--samples"],
         }
@@ -58,7 +70,7 @@ impl Topic {
             Topic::Unpack => &["--alternate", "--marks", "--csv"],
             Topic::Point => &["--alternate", "--group"],
             Topic::Pack => &["--alternate"],
-            Topic::List | Topic::Check | Topic::Split | Topic::Day => &[],
+            Topic::List | Topic::Check | Topic::Levels | Topic::Split | Topic::Day => &[],
         }
     }
 
@@ -130,6 +142,20 @@ impl Topic {
                      either both files are written, each whole, or none."],
                 example: "desk pack gust.grib2 --cut-columns 93-124 --cut-rows 15-30 --to site",
             },
+            Topic::Levels => Text {
+                usage: "desk levels MAP, desk levels --write TEXT --to NAME",
+                what: &[
+                    "Prints the levels of a map under template 5.200 in their order, one a line, below two lines that \
+                     begin with #: the bits of a code, the greatest level and how many points there are; and, in \
+                     hexadecimal, what Section 5 says of the levels' values. They are levels and not gusts: what one \
+                     stands for is not read here, and it may be a missing point.",
+                    "With --write such a text becomes a map again, NAME.s5 and NAME.s7. Its first line must be like \
+                     '# levels, not gusts: bits 4, greatest level 9, points 10'. Without the second, Section 5 says of \
+                     no level what it stands for. No file is written over: either both files are written, each whole, \
+                     or none.",
+                ],
+                example: "desk levels --write rain.txt --to rain",
+            },
             Topic::Split => Text {
                 usage: "desk split FILE:N --to NAME",
                 what: &["Writes Section 5 and Section 7 of a field of a GRIB2 file, of template 5.2, 5.3 or 5.200, \
@@ -169,8 +195,9 @@ const WORDS: [(&str, &str); 6] = [
     (
         "MAP",
         "FILE, a GRIB2 file with one field, or FILE:N for its Nth field; or NAME for the two files NAME.s5 and NAME.s7, \
-         either of which names the map too. NAME.s5 is Section 5 of a GRIB2 message, whole, of template 5.2 or 5.3; \
-         NAME.s7 is its Section 7, whole: length in four octets, number 7, payload. A field with a bitmap is refused.",
+         either of which names the map too. NAME.s5 is Section 5 of a GRIB2 message, whole, of template 5.2 or 5.3, or for \
+         desk levels of 5.200; NAME.s7 is its Section 7, whole: length in four octets, number 7, payload. A field with a \
+         bitmap is refused.",
     ),
     (
         "GRID",
@@ -221,6 +248,6 @@ pub fn text(topic: Option<Topic>) -> String {
     lines.push(status(0, "no error"));
     lines.extend(Refusal::ALL.iter().map(|refusal| status(refusal.number(), refusal.sentence())));
     lines.extend(Why::ALL.iter().map(|why| status(*why as u32, why.sentence())));
-    lines.push(shown::after("", "1 to 15 are the refusals of the calls; 10, 11 and 15 do not come from the desk."));
+    lines.push(shown::after("", "1 to 15 are the refusals of the calls; 10 and 15 do not come from the desk."));
     lines.join("\n") + "\n"
 }

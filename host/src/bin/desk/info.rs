@@ -49,7 +49,7 @@ fn described(field: &Field) -> String {
         Err(why) => parts.push(format!("not read: {why}")),
         Ok(Err(why)) => parts.push(format!("not read: {why}")),
         Ok(Ok(Section5 { numbers: TemplateNumbers::Groups { .. }, .. })) => {}
-        Ok(Ok(_)) => parts.push("its levels are not shown".into()),
+        Ok(Ok(_)) => parts.push("desk levels shows its levels".into()),
     }
     parts.join("; ")
 }

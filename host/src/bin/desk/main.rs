@@ -9,6 +9,7 @@ mod files;
 mod grid;
 mod help;
 mod info;
+mod levels;
 mod map;
 mod own_groups;
 mod packing;
@@ -44,6 +45,8 @@ fn run() -> Result<(), Trouble> {
         Command::Point(point) => commands::point(&point, &mut out)?,
         Command::Check { map, lookahead } => commands::check_map(&map, lookahead, &mut out)?,
         Command::Pack(pack) => commands::pack(&pack, &mut out)?,
+        Command::Levels { map } => levels::show(&map, &mut out)?,
+        Command::WriteLevels { text, to } => levels::write_text(&text, &to, &mut out)?,
         Command::Split { map, to } => commands::split(&map, &to, &mut out)?,
     }
     out.flush()?;

@@ -4,7 +4,7 @@ use crate::grid::{Grid, Laid, Place, Typed};
 use crate::own_groups::{own_groups, OwnGroup};
 use crate::progress::step;
 use crate::shown;
-use crate::source::Sections;
+use crate::source::{octets_of, Sections};
 use crate::trouble::{Trouble, Why};
 use cleatmow::grib2::{self, NoGrid};
 use cleatmow::{
@@ -41,6 +41,11 @@ fn not_section5(name: &str, octets: &[u8], why: String) -> Trouble {
     }
 }
 
+/// The payload of a whole Section 7, and nothing else.
+pub fn payload<'a>(name: &str, octets: &'a [u8]) -> Result<&'a [u8], Trouble> {
+    payload_of(octets).map_err(|why| Trouble::Own(Why::Host, format!("{name}: {why}")))
+}
+
 impl Map {
     /// The map that a command is asked for.
     pub fn named(name: &Path) -> Result<Map, Trouble> {
@@ -51,11 +56,11 @@ impl Map {
         let read = section5(&names[0], &octets[0])?;
         let TemplateNumbers::Groups { template, differences, physical } = read.numbers else {
             // A level may stand for a missing point, so it must not be shown as a number.
-            let levels = "what its levels stand for is not read here, so the desk shows none";
+            let levels = "what its levels stand for is not read here, and desk levels alone shows them";
             let why = format!("Section 5 is of template 5.{}: {levels}", read.template_number());
             return Err(not_section5(&names[0], &octets[0], why));
         };
-        payload_of(&octets[1]).map_err(|why| Trouble::Own(Why::Host, format!("{}: {why}", names[1])))?;
+        payload(&names[1], &octets[1])?;
         let declared = read.declared;
         Ok(Map { name, place, sections: octets, declared, template, differences, physical, grid })
     }
@@ -80,7 +85,7 @@ impl Map {
 
     /// The octets of both sections.
     pub fn octets(&self) -> u64 {
-        self.sections.iter().map(|section| section.len() as u64).sum()
+        octets_of(&self.sections)
     }
 
     fn payload(&self) -> &[u8] {

@@ -1,6 +1,8 @@
 //! Signs of life of a step that takes its time.
 
+use crate::shown;
 use std::io::{self, Write};
+use std::sync::atomic::{AtomicUsize, Ordering};
 use std::sync::mpsc::{channel, RecvTimeoutError};
 use std::thread;
 use std::time::{Duration, Instant};
@@ -28,4 +30,22 @@ pub fn step<T>(doing: impl Fn() -> String + Send + Sync, work: impl FnOnce() -> 
         drop(working);
         answer
     })
+}
+
+/// Prints one after another, such as points, and says how many of them so far.
+pub fn printing<W: Write, T>(
+    out: &mut W,
+    what: &str,
+    all: impl ExactSizeIterator<Item = T>,
+    print: impl Fn(&mut W, T) -> io::Result<()>,
+) -> io::Result<()> {
+    let (printed, count) = (AtomicUsize::new(0), shown::many(all.len(), what));
+    let print_all = || {
+        for one in all {
+            print(out, one)?;
+            printed.fetch_add(1, Ordering::Relaxed);
+        }
+        out.flush()
+    };
+    step(|| format!("printing, {} of {count}", shown::count(printed.load(Ordering::Relaxed) as u64)), print_all)
 }

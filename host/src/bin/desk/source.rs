@@ -8,10 +8,11 @@ use std::ffi::OsStr;
 use std::fs;
 use std::os::unix::ffi::OsStrExt;
 use std::path::{Path, PathBuf};
+use std::str::FromStr;
 
 /// The most octets that a section is read of. A map of as many points and groups as unpacking accepts has less than a
 /// quarter of them.
-const MOST_OF_A_SECTION: u64 = 1 << 28;
+pub const MOST_OF_A_SECTION: u64 = 1 << 28;
 
 /// The most octets that a GRIB2 file is read of.
 const MOST_OF_A_FILE: u64 = 1 << 30;
@@ -46,6 +47,11 @@ impl Sections {
             }
         }
     }
+}
+
+/// How many octets two sections have.
+pub fn octets_of(sections: &[Vec<u8>; 2]) -> u64 {
+    sections.iter().map(|section| section.len() as u64).sum()
 }
 
 /// A GRIB2 file, read.
@@ -142,6 +148,10 @@ fn field_of(name: &Path) -> Option<(PathBuf, usize)> {
     let name = name.as_os_str().as_bytes();
     let colon = name.iter().rposition(|octet| *octet == b':')?;
     let which = std::str::from_utf8(&name[colon + 1..]).ok()?;
-    let is_number = which.bytes().all(|digit| digit.is_ascii_digit());
-    Some((OsStr::from_bytes(&name[..colon]).into(), is_number.then(|| which.parse().ok())??))
+    Some((OsStr::from_bytes(&name[..colon]).into(), whole_number(which)?))
+}
+
+/// The number that a word is, of digits and nothing else.
+pub fn whole_number<N: FromStr>(word: &str) -> Option<N> {
+    word.bytes().all(|digit| digit.is_ascii_digit()).then(|| word.parse().ok())?
 }

@@ -2,9 +2,12 @@
 //!
 //! `compare` runs it all, prints what was compared, and fails on a difference and where too little was compared.
 //! `compare at_scale` does so with ten times as many inputs by chance, or as many times as a number after it says, and then
-//! prints the tables of docs/DIFFERENCES.md. With an operation and an input it judges that one, whose payload is hexadecimal, or - for none:
+//! prints the tables of docs/DIFFERENCES.md. With an operation and an input it judges that one, whose payload is
+//! hexadecimal, or - for none:
 //!
 //! - `compare run_length BITS MAX_LEVEL DECLARED PAYLOAD`
+//! - `compare write_run_length BITS MAX_LEVEL LEVELS`, the levels in hexadecimal too, two octets each; and, where it is not
+//!   just enough, the octets that are lent
 //! - `compare unpack_complex` and the numbers of the C call in its order, the octets that are lent, the payload
 //! - `compare unpack_spatial`, likewise
 //! - `compare pack LOOKAHEAD NUMBERS`, the numbers in hexadecimal too, four octets each; and, where it is not just
@@ -18,6 +21,8 @@ fn main() {
 }
 
 #[cfg(have_text)]
+mod lent;
+#[cfg(have_text)]
 mod packing;
 #[cfg(have_text)]
 mod run_length;
@@ -29,6 +34,8 @@ mod tally;
 mod unpacking;
 #[cfg(have_text)]
 mod words;
+#[cfg(have_text)]
+mod write_run_length;
 
 #[cfg(have_text)]
 fn main() -> std::process::ExitCode {
@@ -43,6 +50,10 @@ fn main() -> std::process::ExitCode {
         ["run_length", ref input @ ..] => {
             let input = run_length::Input::from_words(input).expect("see the top of this file");
             judged(&input, run_length::judge(&input))
+        }
+        ["write_run_length", ref input @ ..] => {
+            let input = write_run_length::Input::from_words(input).expect("see the top of this file");
+            judged(&input, write_run_length::judge(&input))
         }
         [operation @ ("unpack_complex" | "unpack_spatial"), ref input @ ..] => {
             let input = unpacking::Shown::from_words(operation, input).expect("see the top of this file");
@@ -59,9 +70,14 @@ fn main() -> std::process::ExitCode {
 
 /// Compares all. Each operation prints its table, whatever the one before it found.
 #[cfg(have_text)]
-fn reported(scale: u64) -> ([tally::Tally; 4], bool) {
-    let operations: [fn(u64) -> tally::Tally; 4] =
-        [run_length::compare, unpacking::compare_complex, unpacking::compare_spatial, packing::compare];
+fn reported(scale: u64) -> ([tally::Tally; 5], bool) {
+    let operations: [fn(u64) -> tally::Tally; 5] = [
+        run_length::compare,
+        write_run_length::compare,
+        unpacking::compare_complex,
+        unpacking::compare_spatial,
+        packing::compare,
+    ];
     let mut agreed = true;
     let tallies = operations.map(|compare| {
         let tally = compare(scale);

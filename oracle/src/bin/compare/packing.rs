@@ -12,6 +12,7 @@ use oracle::packing::{
     summary_octets,
 };
 
+use crate::lent::Lent;
 use crate::tally::{Asked, Tally, Verdict};
 use crate::words;
 
@@ -44,30 +45,6 @@ impl Input {
             numbers: numbers.collect::<Option<_>>()?,
             lent: if lent.is_empty() { None } else { Some(lent.try_into().ok()?) },
         })
-    }
-}
-
-/// What the octets hold before a call, and the guards about the lent ones after it too.
-const BEFORE: u8 = 0xa5;
-const GUARD: usize = 16;
-
-/// Lent octets and the guards about them.
-struct Lent(Vec<u8>);
-
-impl Lent {
-    fn new(octets: usize) -> Self {
-        Self(vec![BEFORE; octets + 2 * GUARD])
-    }
-
-    fn octets(&mut self) -> &mut [u8] {
-        let end = self.0.len() - GUARD;
-        &mut self.0[GUARD..end]
-    }
-
-    /// Whether these stand at the front, and all else is as it was.
-    fn holds(&self, written: &[u8]) -> bool {
-        let (before, rest) = self.0.split_at(GUARD);
-        rest.starts_with(written) && before.iter().chain(&rest[written.len()..]).all(|octet| *octet == BEFORE)
     }
 }
 
@@ -165,7 +142,7 @@ fn ours_differs(input: &Input, document: Option<&Packing>) -> Option<String> {
         [("groups", &groups, &written[0]), ("payload", &payload, &written[1]), ("summary", &summary, &written[2])]
     {
         if !lent.holds(written) {
-            return Some(format!("{name}: ours leaves {}; document 01: {}", shown(&lent.0), shown(written)));
+            return Some(format!("{name}: ours leaves {}; document 01: {}", shown(lent.all()), shown(written)));
         }
     }
     None

@@ -238,7 +238,8 @@ impl Comparison {
         for (bits, max_level) in [(2, 0), (3, 5), (4, 9), (8, 3), (15, 0), (15, 30_000)] {
             let coding = Coding { bits, max_level };
             for points in MOST_POINTS - 2..=MOST_POINTS + 2 {
-                let payload = one_run(coding, points);
+                // Spare bits may be a level more.
+                let payload = coding.payload_of(&coding.run(coding.max_level, points.into()));
                 self.about_the_count(coding, &payload);
                 self.one(coding, u32::MAX, &payload);
             }
@@ -283,15 +284,4 @@ impl Comparison {
 /// The count of all codes, as far as it can be declared.
 fn count(coding: Coding, payload: &[u8]) -> u32 {
     u32::try_from(coding.runs(payload).points()).unwrap_or(u32::MAX)
-}
-
-/// The greatest level so many times, by repeats; the base is at least 2. Spare bits may be a level more.
-fn one_run(coding: Coding, points: u32) -> Vec<u8> {
-    let mut codes = vec![coding.max_level];
-    let mut left = u64::from(points) - 1;
-    while left > 0 {
-        codes.push(coding.repeat(left % coding.base()));
-        left /= coding.base();
-    }
-    coding.payload_of(&codes)
 }
