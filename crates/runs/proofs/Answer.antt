@@ -7,7 +7,7 @@ use native.Mathlib.Omega.{arith}
 use lib.Dec.{ltb}
 use lib.ListN.{length, drop}
 use Rattle.format.specs.Lists.{anyOf}
-use Rattle.format.specs.Refusals.{Row, limit, refusalNumber, first, Left, left}
+use Rattle.format.specs.Refusals.{Row, limit, refusalNumber, first, left}
 use Rattle.format.specs.RunLength.{codeRefusals}
 use Rattle.format.specs.WritingRunLength.{levelPayload, writeRunLengthRefusals, writeRunLength}
 use Rattle.format.specs.declared.Refusal.{Refusal}

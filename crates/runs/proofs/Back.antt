@@ -7,16 +7,15 @@ use native.Mathlib.Nat.{zero-lt-suc, zero-mul, mul-one, add-mul, mul-assoc, mul-
 use native.Mathlib.Omega.{arith}
 use lib.Dec.{ltb, leb}
 use lib.Pow.{pow-pos}
-use lib.ListN.{length, replicate, length-append, length-replicate, replicate-append-replicate}
-use borrow.Author.Tests.{lt-ltb, le-ltb, lt-leb, ltb-true, ltb-false}
+use lib.ListN.{length, replicate, replicate-append-replicate}
+use borrow.Author.Tests.{lt-ltb, le-ltb, lt-leb, ltb-false}
 use Rattle.format.specs.Lists.{anyOf}
 use Rattle.format.specs.RunLength.{baseOf, levelsOf, repeatsFirst}
 use Rattle.format.specs.WritingRunLength.{digitsUpTo, digitsOf, runsOf, runCodes, levelCodes}
 use Rattle.format.specs.declared.LevelRun.{LevelRun}
 use Rattle.laws.specs.Lists.{any-append}
 use Rattle.laws.specs.RunLength.{behind, levels-same}
-use Rattle.runs.proofs.Digits.{digit-less, digits-few}
-use Rattle.runs.proofs.Codes.{count-repeated, count-digits}
+use Rattle.runs.proofs.Digits.{digit-less}
 use Rattle.runs.proofs.Longest.{unrolled, runs-longest, Runs, first-some, first-low, others, runs-of}
 
 -- ---- what they mean

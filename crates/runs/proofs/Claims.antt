@@ -6,28 +6,26 @@ use Prim.Native.Nat.{ℕ, _+_, _-_, _*_, _/_, _^_, _≤_, _<_}
 use native.Mathlib.Nat.{zero-mul, zero-div, zero-mod, le-div-iff-mul-le}
 use native.Mathlib.Omega.{arith}
 use lib.Dec.{ltb}
-use lib.ListN.{length, take, length-append, List·getD-eq-default}
+use lib.ListN.{length, length-append, List·getD-eq-default}
 use lib.Seq.{take-at}
 use borrow.Author.Tests.{ltb-true, ltb-false, eqb-true, eq-eqb}
 use Rattle.format.specs.Lists.{listed, anyOf, _over_}
-use Rattle.format.specs.Bits.{bitIn, bitAt, bit, numberOf, fieldOf, stringOf, roundedUp, padded}
+use Rattle.format.specs.Bits.{bitIn, bitAt, fieldOf, stringOf, roundedUp}
 use Rattle.format.specs.Layout.{levelSize, levelOctets}
 use Rattle.format.specs.Refusals.{Left, first, roomRefusals, left}
-use Rattle.format.specs.RunLength.{wholeCodes, codesUpTo, baseOf, levelsOf, levelsUpTo, onlyPadding, stopsBefore, codesRead, repeatsFirst, runLengthRefusals, runLengthUpTo, runLength}
+use Rattle.format.specs.RunLength.{wholeCodes, codesUpTo, baseOf, levelsOf, levelsUpTo, onlyPadding, stopsBefore, codesRead, repeatsFirst, runLengthRefusals, runLengthUpTo}
 use Rattle.format.specs.WritingRunLength.{runsOf, levelCodes, levelPayload, writeRunLengthRefusals, writeRunLength}
-use Rattle.format.specs.declared.LevelRun.{LevelRun}
-use Rattle.format.specs.declared.OctetPlace.{OctetPlace}
 use Rattle.format.specs.declared.Stored.{Stored}
 use Rattle.format.specs.declared.Stored.the-variants as stored
 use Rattle.format.specs.declared.Unrolled.the-variants as unrolled
 use Rattle.laws.specs.First.{leaves, passed, tests}
-use Rattle.laws.specs.Lists.{both, where-up-to, where-holds, where-first}
+use Rattle.laws.specs.Lists.{both, where-holds, where-first}
 use Rattle.laws.specs.Bits.{bit-listed, field-add}
 use Rattle.laws.specs.Strings.{bits-string, length-string, length-padded}
 use Rattle.laws.specs.Parts.{field-alone}
 use Rattle.laws.specs.Written.{fits-each}
 use Rattle.laws.specs.RunLength.{behind, zero-padding}
-use Rattle.runs.specs.Claims.{Writable, LevelsBack, AcceptedIsWritten, OnePayload, Longest, RunsAreLongest, NumberFive}
+use Rattle.runs.specs.Claims.{LevelsBack, AcceptedIsWritten, OnePayload, RunsAreLongest, NumberFive}
 use Rattle.runs.proofs.Answer.{spans}
 use Rattle.runs.proofs.Longest.{runs-longest, runs-are}
 use Rattle.runs.proofs.Few.{payload-few}

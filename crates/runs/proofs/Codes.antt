@@ -2,8 +2,7 @@
 use mathlib.Core.Path.{_≡_, refl, sym, ap, _∙_}
 use mathlib.Core.Bool.{Bool, true, false, _||_, false≢true}
 use mathlib.Core.List.{List, [], _∷_, _++_, map, flatMap}
-use Prim.Native.Nat.{ℕ, _+_, _-_, _*_, _/_, _%_, _^_, _≤_, _<_}
-use native.Mathlib.Nat.{mul-le-mul-right}
+use Prim.Native.Nat.{ℕ, _+_, _-_, _/_, _%_, _^_, _≤_, _<_}
 use native.Mathlib.Omega.{arith}
 use lib.Dec.{ltb}
 use lib.Pow.{pow-pos, pow-mono}
@@ -11,9 +10,7 @@ use lib.ListN.{length, replicate, drop, length-append, length-replicate, drop-of
 use borrow.Author.Tests.{lt-ltb, le-ltb}
 use Rattle.format.specs.Lists.{anyOf}
 use Rattle.format.specs.Bits.{spanOf}
-use Rattle.format.specs.RunLength.{baseOf}
-use Rattle.format.specs.Refusals.{limit, first}
-use Rattle.format.specs.WritingRunLength.{digitsOf, runsOf, runCodes, levelCodes, levelPayload}
+use Rattle.format.specs.WritingRunLength.{digitsOf, runsOf, runCodes, levelCodes}
 use Rattle.format.specs.declared.Refusal.the-variants.{Numbers}
 use Rattle.format.specs.declared.LevelRun.{LevelRun}
 use Rattle.format.specs.declared.OctetPlace.{OctetPlace}
@@ -23,7 +20,7 @@ use Rattle.laws.specs.Lists.{length-map, any-end}
 use Rattle.laws.specs.Saying.{part-size}
 use Rattle.runs.specs.Runs.{Begins, Codable, digitCodes, counted}
 use Rattle.runs.specs.declared.LevelCoding.{LevelCoding}
-use Rattle.runs.proofs.Digits.{digits-next, digits-last, digits-none, digits-few}
+use Rattle.runs.proofs.Digits.{digits-next, digits-last, digits-none}
 use Rattle.runs.proofs.Runs.{begins-runs, begins-any}
 
 -- ---- codes fit their bits

@@ -1,7 +1,7 @@
 -- No more codes than levels. Assumes nothing.
-use mathlib.Core.Path.{_≡_, refl, ap, _∙_}
+use mathlib.Core.Path.{_≡_, refl, ap}
 use mathlib.Core.Bool.{Bool, true, false}
-use mathlib.Core.List.{List, [], _∷_, _++_, flatMap}
+use mathlib.Core.List.{List, [], _∷_, flatMap}
 use Prim.Native.Nat.{ℕ, _*_, _^_, _≤_, _<_}
 use native.Mathlib.Nat.{mul-le-mul-right}
 use native.Mathlib.Omega.{arith}
@@ -19,7 +19,7 @@ use Rattle.format.specs.declared.Stored.{Stored}
 use Rattle.format.specs.declared.Stored.the-variants as stored
 use Rattle.laws.specs.Bits.{product}
 use Rattle.laws.specs.Lists.{either-left, either-right}
-use Rattle.laws.specs.First.{Clear, passed, tests}
+use Rattle.laws.specs.First.{passed, tests}
 use Rattle.laws.specs.Strings.{length-string, length-padded}
 use Rattle.runs.proofs.Digits.{digits-few}
 use Rattle.runs.proofs.Codes.{count-repeated, count-digits}

@@ -1,16 +1,16 @@
 -- That each premise of the claims of document 02, No. 5, is needed: the smallest input that shows it, all other premises being stated
 -- to hold. Assumes nothing.
-use mathlib.Core.Path.{_≡_, refl, sym, ap, _∙_}
+use mathlib.Core.Path.{_≡_, refl}
 use mathlib.Core.Bool.{false}
-use mathlib.Core.List.{List, [], _∷_, _++_, map, flatMap}
+use mathlib.Core.List.{List, [], _∷_, flatMap}
 use Prim.Native.Nat.{ℕ, zero, suc, _-_, _^_, _≤_, _<_}
 use native.Mathlib.Omega.{arith}
 use lib.Dec.{ltb}
 use lib.ListN.{length, replicate, length-replicate}
-use Rattle.format.specs.Lists.{listed, firstWhere, anyOf}
+use Rattle.format.specs.Lists.{listed, anyOf}
 use Rattle.format.specs.Bits.{bitIn, numberOf}
-use Rattle.format.specs.Refusals.{limit, refusalNumber, first, left}
-use Rattle.format.specs.RunLength.{levelsOf, levelsUpTo, onlyPadding, codesRead, repeatsFirst, runLengthRefusals, runLengthUpTo, runLength}
+use Rattle.format.specs.Refusals.{limit, first, left}
+use Rattle.format.specs.RunLength.{repeatsFirst, runLengthUpTo, runLength}
 use Rattle.format.specs.WritingRunLength.{runsFrom, runsOf, digitsUpTo, digitsOf, runCodes, levelCodes, levelPayload}
 use Rattle.format.specs.Seen.{Seen, lent, refused, unrolling}
 use Rattle.format.specs.declared.Refusal.the-variants.{Points}

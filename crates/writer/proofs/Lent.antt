@@ -1,7 +1,7 @@
 -- A payload that is written where it has room. Assumes nothing.
 use mathlib.Core.Path.{_≡_, refl, ap₂, _∙_}
 use mathlib.Core.List.{List, []}
-use Prim.Native.Nat.{ℕ, _*_, _≤_, _<_}
+use Prim.Native.Nat.{ℕ, _≤_, _<_}
 use native.Mathlib.Omega.{arith}
 use lib.ListN.{length}
 use Rattle.format.specs.Lists.{listed, _over_}
@@ -12,7 +12,7 @@ use Rattle.format.specs.declared.OctetPlace.{OctetPlace}
 use Rattle.format.specs.declared.Stored.the-variants as stored
 use Rattle.laws.specs.First.{decides, clears, tests}
 use Rattle.laws.specs.Strings.{length-padded}
-use Rattle.writer.specs.Pen.{Held, Ready, Moved, Finished, payloadLent}
+use Rattle.writer.specs.Pen.{Ready, Moved, Finished, payloadLent}
 use Rattle.writer.specs.declared.Pen.{Pen}
 use Rattle.writer.proofs.Pens.{fresh}
 

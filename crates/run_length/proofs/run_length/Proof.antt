@@ -1,7 +1,7 @@
 -- `run_length::run_length` meets its contract. Assumes nothing.
 use mathlib.Core.Path.{refl}
 use Rattle.format.specs.RunLength.{codeRefusals, runLengthUpTo}
-use Rattle.format.specs.declared.Refusal.the-variants.{Width, Repeat, Points, Room}
+use Rattle.format.specs.declared.Refusal.the-variants.{Repeat, Points, Room}
 use Rattle.run_length.proofs.Codes.{coding-clear}
 use Rattle.run_length.proofs.Passes.{refused-code, refused-behind, stored-behind, unrolling-none, unrolling-all}
 use Rattle.laws.specs.First.{Clear, decides, tests, flag-same}

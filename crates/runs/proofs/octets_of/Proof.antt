@@ -2,7 +2,6 @@
 use Prim.Native.Nat.{_-_}
 use lib.ListN.{length}
 use native.Mathlib.Omega.{arith}
-use borrow.Author.Needs.{needs}
 use Rattle.format.specs.Layout.{levelsIn}
 use Rattle.runs.proofs.Codes.{Counting, counting-start, counting-above, counting-next, counting-end}
 use Rattle.runs.proofs.octets_of.Statement.{statement}
