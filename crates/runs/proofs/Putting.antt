@@ -18,16 +18,16 @@ use Rattle.runs.specs.declared.LevelCoding.{LevelCoding}
 use Rattle.runs.proofs.Codes.{codes-none, codes-next, codes-last, codes-repeated, codes-digits, codesFrom, from-start, from-next, from-end}
 
 -- of all codes those before `rest` are put
-pub record Putting (b : ℕ) (all rest : List ℕ) (p : Pen) (octets octets′ : List ℕ) (q : Pen) : Type 0 where
+pub record CodesPut (b : ℕ) (all rest : List ℕ) (p : Pen) (octets octets′ : List ℕ) (q : Pen) : Type 0 where
   pub done : List ℕ
   pub all-is : all ≡ done ++ rest
   pub moved : Moved p (stringOf b done) octets octets′ q
 
-pub put-start : (b : ℕ) (all : List ℕ) {n : ℕ} {p : Pen} {octets : List ℕ} → Ready p n octets → Putting b all all p octets octets p
+pub put-start : (b : ℕ) (all : List ℕ) {n : ℕ} {p : Pen} {octets : List ℕ} → Ready p n octets → CodesPut b all all p octets octets p
 unfolding listed
 put-start b all r = record { done = []; all-is = refl; moved = rw (zero-mul b) (moved-none r) }
 
-module _ {b : ℕ} {all rest : List ℕ} {p q : Pen} {octets octets′ : List ℕ} (x : Putting b all rest p octets octets′ q) where
+module _ {b : ℕ} {all rest : List ℕ} {p q : Pen} {octets octets′ : List ℕ} (x : CodesPut b all rest p octets octets′ q) where
   module _ (codes behind : List ℕ) (e : rest ≡ codes ++ behind) where
     -- there is room for the next ones
     pub put-ready : Ready p (length all * b) octets → Ready q (length codes * b) octets′
@@ -38,7 +38,7 @@ module _ {b : ℕ} {all rest : List ℕ} {p q : Pen} {octets octets′ : List �
         moved-ready (x .moved) (length codes * b) r (omega (arith, length-string b (x .done), few, add-mul (length (x .done)) (length codes) b))
 
     -- and they are put
-    pub put-more : {r : Pen} {octets″ : List ℕ} → Moved q (stringOf b codes) octets′ octets″ r → Putting b all behind p octets octets″ r
+    pub put-more : {r : Pen} {octets″ : List ℕ} → Moved q (stringOf b codes) octets′ octets″ r → CodesPut b all behind p octets octets″ r
     put-more m = record {
       done = x .done ++ codes;
       all-is = x .all-is ∙ ap (λ (l : List ℕ). x .done ++ l) e ∙ sym (append-assoc (x .done) codes behind);
@@ -55,7 +55,7 @@ module _ {b : ℕ} {all rest : List ℕ} {p q : Pen} {octets octets′ : List �
 -- ---- the digits of a number
 
 module _ (c : LevelCoding) (number rest : ℕ) {p q : Pen} {octets octets′ : List ℕ} (some : 2 ≤ c .base)
-    (x : Putting (c .bits) (digitCodes c number) (digitCodes c rest) p octets octets′ q) where
+    (x : CodesPut (c .bits) (digitCodes c number) (digitCodes c rest) p octets octets′ q) where
   pub digits-end : rest ≡ 0 → Moved p (stringOf (c .bits) (digitCodes c number)) octets octets′ q
   digits-end e = put-end x (codes-none c e)
 
@@ -64,7 +64,7 @@ module _ (c : LevelCoding) (number rest : ℕ) {p q : Pen} {octets octets′ : L
     digit-ready r = put-ready-one x (codes-next c some l) r
 
     pub digit-more : {r : Pen} {octets″ : List ℕ} → Moved q (stringOf (c .bits) ((c .greatest + 1 + rest % c .base) ∷ [])) octets′ octets″ r
-        → Putting (c .bits) (digitCodes c number) (digitCodes c (rest / c .base)) p octets octets″ r
+        → CodesPut (c .bits) (digitCodes c number) (digitCodes c (rest / c .base)) p octets octets″ r
     digit-more m = put-more x (_ ∷ []) _ (codes-next c some l) m
 
   module _ (h : rest ≡ 0 → ⊥) (l : rest < c .base) where
@@ -77,10 +77,10 @@ module _ (c : LevelCoding) (number rest : ℕ) {p q : Pen} {octets octets′ : L
 
 -- ---- a level that is repeated
 
-pub repeated-start : (level n : ℕ) {b m : ℕ} {p : Pen} {octets : List ℕ} → Ready p m octets → Putting b (replicate n level) (replicate (n - 0) level) p octets octets p
+pub repeated-start : (level n : ℕ) {b m : ℕ} {p : Pen} {octets : List ℕ} → Ready p m octets → CodesPut b (replicate n level) (replicate (n - 0) level) p octets octets p
 repeated-start level n r = rw (sub-zero n) (put-start _ _ r)
 
-module _ (level n : ℕ) {b k : ℕ} {p q : Pen} {octets octets′ : List ℕ} (x : Putting b (replicate n level) (replicate (n - k) level) p octets octets′ q) where
+module _ (level n : ℕ) {b k : ℕ} {p q : Pen} {octets octets′ : List ℕ} (x : CodesPut b (replicate n level) (replicate (n - k) level) p octets octets′ q) where
   pub repeated-end : n ≤ k → Moved p (stringOf b (replicate n level)) octets octets′ q
   repeated-end l = let none : n - k ≡ 0 = omega arith in put-end x (ap (λ (m : ℕ). replicate m level) none)
 
@@ -91,7 +91,7 @@ module _ (level n : ℕ) {b k : ℕ} {p q : Pen} {octets octets′ : List ℕ} (
     pub repeated-ready : Ready p (length (replicate n level) * b) octets → Ready q b octets′
     repeated-ready r = put-ready-one x next-level r
 
-    pub repeated-more : {r : Pen} {octets″ : List ℕ} → Moved q (stringOf b (level ∷ [])) octets′ octets″ r → Putting b (replicate n level) (replicate (n - (k + 1)) level) p octets octets″ r
+    pub repeated-more : {r : Pen} {octets″ : List ℕ} → Moved q (stringOf b (level ∷ [])) octets′ octets″ r → CodesPut b (replicate n level) (replicate (n - (k + 1)) level) p octets octets″ r
     repeated-more m = put-more x (_ ∷ []) _ next-level m
 
 -- ---- a run
@@ -110,7 +110,7 @@ module _ (c : LevelCoding) (run : LevelRun) {p : Pen} {octets : List ℕ} (ready
     run-level-ready = put-ready-one (put-start (c .bits) _ ready) (codes-digits c run l) ready
 
     module _ {octets′ : List ℕ} {q : Pen} (m : Moved p (stringOf (c .bits) (run .level ∷ [])) octets octets′ q) where
-      level-put : Putting (c .bits) (runCodes (c .greatest) (c .base) run) (digitCodes c (run .length - 1)) p octets octets′ q
+      level-put : CodesPut (c .bits) (runCodes (c .greatest) (c .base) run) (digitCodes c (run .length - 1)) p octets octets′ q
       level-put = put-more (put-start (c .bits) _ ready) (_ ∷ []) _ (codes-digits c run l) m
 
       pub run-digits-ready : Ready q (length (digitCodes c (run .length - 1)) * c .bits) octets′
@@ -125,7 +125,7 @@ module _ (c : LevelCoding) (run : LevelRun) {p : Pen} {octets : List ℕ} (ready
 -- the runs before a place are put
 pub record LevelsPut (c : LevelCoding) (levels : List ℕ) (place : ℕ) (p : Pen) (octets octets′ : List ℕ) (q : Pen) : Type 0 where
   pub within : place ≤ length levels
-  pub put : Putting (c .bits) (levelCodes (c .bits) (c .greatest) levels) (codesFrom c levels place) p octets octets′ q
+  pub put : CodesPut (c .bits) (levelCodes (c .bits) (c .greatest) levels) (codesFrom c levels place) p octets octets′ q
 
 module _ (c : LevelCoding) (levels : List ℕ) where
   abbrev codes : List ℕ

@@ -4,12 +4,12 @@ use borrow.Author.Needs.{needs}
 use native.Mathlib.Nat.{mod-lt}
 use Rattle.runs.specs.Runs.{digitCodes}
 use Rattle.runs.proofs.Digits.{digit-less}
-use Rattle.runs.proofs.Putting.{Putting, put-start, digits-end, digit-ready, digit-more, last-ready, last-moved}
+use Rattle.runs.proofs.Putting.{CodesPut, put-start, digits-end, digit-ready, digit-more, last-ready, last-moved}
 use Rattle.runs.proofs.put_digits.Statement.{statement}
 use Rattle.runs.proofs.put_digits.Tie as tie
 
 abbrev Inv-loop : tie.InvT-loop
-Inv-loop coding number payload₀ here₀ rest₀ payload here rest = Putting (coding .bits) (digitCodes coding number) (digitCodes coding rest) here₀ payload₀ payload here
+Inv-loop coding number payload₀ here₀ rest₀ payload here rest = CodesPut (coding .bits) (digitCodes coding number) (digitCodes coding rest) here₀ payload₀ payload here
 
 abbrev μ-loop : tie.MeasureT-loop
 μ-loop coding number payload₀ here₀ rest₀ payload here rest = rest

@@ -4,12 +4,12 @@ use lib.ListN.{replicate}
 use native.Mathlib.Omega.{arith}
 use borrow.Author.Needs.{needs}
 use Rattle.runs.proofs.Codes.{level-fits}
-use Rattle.runs.proofs.Putting.{Putting, repeated-start, repeated-end, repeated-ready, repeated-more}
+use Rattle.runs.proofs.Putting.{CodesPut, repeated-start, repeated-end, repeated-ready, repeated-more}
 use Rattle.runs.proofs.put_repeated.Statement.{statement}
 use Rattle.runs.proofs.put_repeated.Tie as tie
 
 abbrev Inv-loop : tie.InvT-loop
-Inv-loop coding run payload₀ here₀ k₀ payload here k = Putting (coding .bits) (replicate (run .length) (run .level)) (replicate (run .length - k) (run .level)) here₀ payload₀ payload here
+Inv-loop coding run payload₀ here₀ k₀ payload here k = CodesPut (coding .bits) (replicate (run .length) (run .level)) (replicate (run .length - k) (run .level)) here₀ payload₀ payload here
 
 abbrev μ-loop : tie.MeasureT-loop
 μ-loop coding run payload₀ here₀ k₀ payload here k = run .length - k
