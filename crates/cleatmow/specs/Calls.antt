@@ -31,7 +31,8 @@ abbrev pub calledPoint : Picked → ℕ → ℤ → PointCall
 calledPoint (picked.Point point) mark held = record { number = pickedNumber (picked.Point point); mark = markOf point; held = heldBy point }
 calledPoint (picked.Refused r) mark held = record { number = pickedNumber (picked.Refused r); mark = mark; held = held }
 
--- what the call that writes levels comes to: its number, the payload and the value that was lent for its octets, as they are left
+-- what the call that writes levels comes to: its number, the payload, and the value that was lent for its octets, as they are
+-- left
 pub record WriteCall : Type 0 where
   pub number : ℕ
   pub payload : List ℕ

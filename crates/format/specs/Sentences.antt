@@ -20,7 +20,7 @@ use Rattle.format.specs.Section5.{table, sectionSize, fieldCount, laid, 
 use Rattle.format.specs.Point.{point52}
 use Rattle.format.specs.WritingRunLength.{runsFrom, runsOf, digitsUpTo, digitsOf, runCodes, levelCodes, writeRunLength, writeRunLengthRefusals}
 use Rattle.format.specs.Cases.{octets52, fields52, octets53, fields53}
-use Rattle.format.specs.Layout.{pointOctets, levelOctets, numbersIn, inFours}
+use Rattle.format.specs.Layout.{pointOctets, levelOctets, levelsIn, numbersIn, inFours}
 use Rattle.format.specs.declared.Refusal.the-variants.{Width, Numbers}
 use Rattle.format.specs.declared.Part.the-variants.{References, Lengths, Values}
 use Rattle.format.specs.declared.DecodedValue.the-variants.{Normal, Missing1, Missing2}
@@ -60,6 +60,7 @@ sentences =
     -- run-length
     ∷ unrollingIn 0 9 4 (0xCB ∷ []) 5 shows refused 5 (lent 5 ∷ [])
     ∷ unrollingIn 16 9 4 (0xCB ∷ []) 5 shows refused 5 (lent 5 ∷ [])
+    ∷ unrollingIn 16 9 1 (0x00 ∷ 0x0A ∷ []) 1 shows refused 5 (lent 1 ∷ [])
     ∷ unrollingIn 4 16 4 (0xCB ∷ []) 5 shows refused 5 (lent 5 ∷ [])
     ∷ unrollingIn 4 9 4 (0xCB ∷ []) 5 shows refused 11 (lent 5 ∷ [])
     ∷ unrollingIn 4 9 4 (0x3C ∷ []) 5 shows refused 9 (lent 5 ∷ [])
@@ -276,25 +277,42 @@ sentences =
     ∷ writingLevels 4 9 (3 ∷ 9 ∷ 0 ∷ []) 1 shows refused 10 (lent 1 ∷ [])
     ∷ writingLevels 4 9 (3 ∷ 9 ∷ 0 ∷ []) 2 shows spanned 2 (0x39 ∷ 0x00 ∷ [])
     ∷ writingLevels 4 9 (3 ∷ 9 ∷ 0 ∷ []) 3 shows spanned 2 (0x39 ∷ 0x00 ∷ 255 ∷ [])
+    -- "no buffer is changed by them": 13 for the first level, and for the last
+    ∷ writingLevels 4 9 (10 ∷ 3 ∷ 3 ∷ []) 2 shows refused 13 (lent 2 ∷ [])
+    ∷ writingLevels 4 9 (3 ∷ 3 ∷ 300 ∷ []) 2 shows refused 13 (lent 2 ∷ [])
     -- "An empty list writes nothing.", and 5 is tested all the same
     ∷ writingLevels 4 9 [] 0 shows spanned 0 []
     ∷ writingLevels 4 9 [] 1 shows spanned 0 (255 ∷ [])
+    ∷ writingLevels 0 0 [] 1 shows refused 5 (lent 1 ∷ [])
+    ∷ writingLevels 16 9 [] 1 shows refused 5 (lent 1 ∷ [])
     ∷ writingLevels 4 16 [] 1 shows refused 5 (lent 1 ∷ [])
-    -- "least first, no leading zero digit at the top": base 6, one digit and two; base 2, a run of one to a run of five
+    -- "least first, no leading zero digit at the top": base 6, one digit to four; base 2, a run of two to a run of seventeen
     ∷ writingLevels 4 9 (replicate 6 3) 1 shows spanned 1 (0x3F ∷ [])
     ∷ writingLevels 4 9 (replicate 7 3) 2 shows spanned 2 (0x3A ∷ 0xB0 ∷ [])
+    ∷ writingLevels 4 9 (replicate 40 9) 2 shows spanned 2 (0x9D ∷ 0xAB ∷ [])
+    ∷ writingLevels 4 9 (replicate 300 9) 3 shows spanned 3 (0x9F ∷ 0xBC ∷ 0xB0 ∷ [])
     ∷ writingLevels 2 1 (1 ∷ 0 ∷ 0 ∷ []) 1 shows spanned 1 (0x4C ∷ [])
     ∷ writingLevels 2 1 (replicate 3 0) 1 shows spanned 1 (0x2C ∷ [])
     ∷ writingLevels 2 1 (replicate 4 0) 1 shows spanned 1 (0x3C ∷ [])
     ∷ writingLevels 2 1 (replicate 5 0) 1 shows spanned 1 (0x2B ∷ [])
+    ∷ writingLevels 2 1 (replicate 17 0) 2 shows spanned 2 (0x2A ∷ 0xB0 ∷ [])
+    -- "the base": 3, 22 and 311, and M 0
+    ∷ writingLevels 3 4 (replicate 5 4) 2 shows spanned 2 (0x9B ∷ 0x00 ∷ [])
+    ∷ writingLevels 5 9 (replicate 24 9) 2 shows spanned 2 (0x4A ∷ 0xD6 ∷ [])
+    ∷ writingLevels 9 200 (replicate 400 7) 4 shows spanned 4 (0x03 ∷ 0xC8 ∷ 0x59 ∷ 0x40 ∷ [])
+    ∷ writingLevels 2 0 (0 ∷ []) 1 shows spanned 1 (0x00 ∷ [])
     -- "Where the base is below 2, a run repeats its level instead.": base 1, base 0, and the greatest level
     ∷ writingLevels 4 14 (3 ∷ 3 ∷ 3 ∷ []) 2 shows spanned 2 (0x33 ∷ 0x30 ∷ [])
+    ∷ writingLevels 4 14 (replicate 9 14) 5 shows spanned 5 (0xEE ∷ 0xEE ∷ 0xEE ∷ 0xEE ∷ 0xE0 ∷ [])
     ∷ writingLevels 4 15 (15 ∷ 15 ∷ 3 ∷ []) 2 shows spanned 2 (0xFF ∷ 0x30 ∷ [])
+    ∷ writingLevels 1 1 (1 ∷ 0 ∷ 1 ∷ []) 1 shows spanned 1 (0xA0 ∷ [])
     -- "each longest run": a level that comes again is a run of its own
     ∷ writingLevels 4 9 (3 ∷ 5 ∷ 5 ∷ 3 ∷ 3 ∷ []) 3 shows spanned 3 (0x35 ∷ 0xB3 ∷ 0xB0 ∷ [])
     -- "Pad with zero bits.", of codes of 15 bits too
     ∷ writingLevels 15 32767 (32767 ∷ 1 ∷ []) 4 shows spanned 4 (0xFF ∷ 0xFE ∷ 0x00 ∷ 0x04 ∷ [])
     ∷ writingLevels 3 7 (7 ∷ []) 1 shows spanned 1 (0xE0 ∷ [])
+    -- "a level two", big-endian, and a spare octet
+    ∷ answered (levelsIn (1 ∷ 5 ∷ 0xFF ∷ 0xFE ∷ 9 ∷ [])) [] shows answered (261 ∷ 65534 ∷ []) []
     ∷ []
 
 pub all-hold : AllHold sentences

@@ -13,13 +13,15 @@ use Rattle.format.specs.declared.LevelRun.{LevelRun}
 use Rattle.format.specs.declared.Stored.{Stored}
 use Rattle.format.specs.declared.Stored.the-variants as stored
 
--- "each longest run": those of a level that has stood n times, and of the levels behind it. While the level stays, the run grows
+-- "each longest run": those of a level that has stood n times, and of the levels behind it. While the level stays, the run
+-- grows
 unfoldable pub runsFrom : ℕ → ℕ → List ℕ → List LevelRun
 runsFrom level n [] = record { level = level; length = n } ∷ []
 runsFrom level n (next ∷ levels) =
+    let others = runsFrom next 1 levels in
     cond (eqb next level)
     (runsFrom level (suc n) levels)
-    (record { level = level; length = n } ∷ runsFrom next 1 levels)
+    (record { level = level; length = n } ∷ others)
 
 unfoldable pub runsOf : List ℕ → List LevelRun
 runsOf [] = []
@@ -35,8 +37,8 @@ digitsUpTo (suc bound) base (suc n) = suc n % base ∷ digitsUpTo bound base (su
 unfoldable pub digitsOf : ℕ → ℕ → List ℕ
 digitsOf base n = digitsUpTo n base n
 
--- "its level and then the run length less one in digits of the base [..], none at all for a run of one. Where the base is below 2,
--- a run repeats its level instead.": digit d is the code that repeats d × base^j times, M + 1 + d
+-- "its level and then the run length less one in digits of the base [..], none at all for a run of one. Where the base is
+-- below 2, a run repeats its level instead.": digit d is the code that repeats d × base^j times, M + 1 + d
 unfoldable pub runCodes : ℕ → ℕ → LevelRun → List ℕ
 runCodes M base run =
     cond (ltb base 2)

@@ -6,8 +6,8 @@ use Prim.Native.Nat.{ℕ, suc, _≤_, _<_}
 use native.Mathlib.Omega.{arith}
 use lib.Dec.{ltb}
 use lib.ListN.{length, drop}
-use Rattle.format.specs.Lists.{anyOf}
-use Rattle.format.specs.Refusals.{Row, limit, refusalNumber, first, left}
+use Rattle.format.specs.Lists.{anyOf, _over_}
+use Rattle.format.specs.Refusals.{Row, limit, refusalNumber, first, Left, left}
 use Rattle.format.specs.RunLength.{codeRefusals}
 use Rattle.format.specs.WritingRunLength.{levelPayload, writeRunLengthRefusals, writeRunLength}
 use Rattle.format.specs.declared.Refusal.{Refusal}
@@ -20,7 +20,7 @@ use Rattle.writer.specs.Pen.{payloadLent}
 use Rattle.runs.specs.Runs.{counted}
 
 -- a span is none of the refusals, and its octets are known by it
-abbrev pub spans : Stored → ℕ
+abbrev spans : Stored → ℕ
 spans (stored.Span octets) = suc (octets .0)
 spans (stored.Refused r) = 0
 
@@ -29,6 +29,14 @@ pub span-counted : (b M : ℕ) (levels : List ℕ) {s : Stored} {octets : OctetP
 span-counted b M levels es e =
     let p = passed (λ r. stored.Refused r) _ _ (sym e ∙ es) (λ r d. absurd (omega (arith, ap spans d))) in
     (p .0 .0, omega (arith, ap spans (p .1)))
+
+-- what is accepted: no row refuses, and the payload stands in as many octets as it has
+pub accepted : (b M : ℕ) (levels lent : List ℕ) {octets : OctetPlace} {payload : List ℕ} → left (stored.Span octets) payload ≡ writeRunLength b M levels lent
+    → Clear (writeRunLengthRefusals b M levels lent) × (octets .0 ≡ length (levelPayload b M levels)) × (payload ≡ levelPayload b M levels over lent)
+unfolding writeRunLength
+accepted b M levels lent e =
+    let p = passed (λ r. left (stored.Refused r) lent) (writeRunLengthRefusals b M levels lent) _ e (λ r d. absurd (omega (arith, ap (λ (x : Left Stored). spans (x .answer)) d))) in
+    (p .0, omega (arith, ap (λ (x : Left Stored). spans (x .answer)) (p .1)), ap (λ (x : Left Stored). x .buffer) (p .1))
 
 module _ (b M : ℕ) (levels lent : List ℕ) where
   abbrev rows : List Row

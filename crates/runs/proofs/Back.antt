@@ -16,7 +16,9 @@ use Rattle.format.specs.declared.LevelRun.{LevelRun}
 use Rattle.laws.specs.Lists.{any-append}
 use Rattle.laws.specs.RunLength.{behind, levels-same}
 use Rattle.runs.proofs.Digits.{digit-less}
-use Rattle.runs.proofs.Longest.{unrolled, runs-longest, Runs, first-some, first-low, others, runs-of}
+use Rattle.runs.specs.Claims.{unrolledRun}
+use Rattle.runs.proofs.Runs.{any-same}
+use Rattle.runs.proofs.Longest.{runs-longest, LowRuns, first-some, first-low, others, runs-of}
 
 -- ---- what they mean
 
@@ -50,7 +52,7 @@ module _ (M base : ℕ) where
           rw (h, le-ltb M level l, e, levels-digits (ltb-false base 2 h) n n level 1 (omega arith), mul-one n)
 
   -- run by run
-  levels-runs : (last weight : ℕ) (runs : List LevelRun) → Runs M runs → levelsOf M base last weight (flatMap (runCodes M base) runs) ≡ flatMap unrolled runs
+  levels-runs : (last weight : ℕ) (runs : List LevelRun) → LowRuns M runs → levelsOf M base last weight (flatMap (runCodes M base) runs) ≡ flatMap unrolledRun runs
   unfolding flatMap levelsOf
   levels-runs last weight [] r = refl
   levels-runs last weight (run ∷ runs) r =
@@ -73,7 +75,7 @@ first-run M base level (suc n) codes l some = by-test (ltb base 2) refl
     by-test true h = rw h (le-ltb M level l)
     by-test false h = rw h (le-ltb M level l)
 
-first-runs : (M base : ℕ) (runs : List LevelRun) (more : List ℕ) → Runs M runs → (flatMap (runCodes M base) runs ≡ [] → repeatsFirst M more ≡ false)
+first-runs : (M base : ℕ) (runs : List LevelRun) (more : List ℕ) → LowRuns M runs → (flatMap (runCodes M base) runs ≡ [] → repeatsFirst M more ≡ false)
     → repeatsFirst M (flatMap (runCodes M base) runs ++ more) ≡ false
 unfolding flatMap
 first-runs M base [] more r h = h refl
@@ -91,11 +93,6 @@ module _ (b M : ℕ) (low : M ≤ 2 ^ b - 1) where
   abbrev large : ℕ → Bool
   large = leb (2 ^ b)
 
-  fit-same : (level n : ℕ) → level ≤ M → anyOf large (replicate n level) ≡ false
-  unfolding anyOf
-  fit-same level zero l = refl
-  fit-same level (suc n) l = rw (lt-leb (2 ^ b) level (omega (arith, pow-pos b))) (fit-same level n l)
-
   fit-digits : (bound n : ℕ) → 2 ≤ baseOf b M → anyOf large (map (λ digit. M + 1 + digit) (digitsUpTo bound (baseOf b M) n)) ≡ false
   unfolding anyOf digitsUpTo
   fit-digits zero n some = refl
@@ -109,10 +106,10 @@ module _ (b M : ℕ) (low : M ≤ 2 ^ b - 1) where
   fit-run run l = by-test (ltb (baseOf b M) 2) refl
     where
       by-test : (t : Bool) → ltb (baseOf b M) 2 ≡ t → anyOf large (runCodes M (baseOf b M) run) ≡ false
-      by-test true h = rw h (fit-same (run .level) (run .length) l)
+      by-test true h = rw h (any-same large (run .level) (run .length) (lt-leb (2 ^ b) (run .level) (omega (arith, pow-pos b))))
       by-test false h = rw (h, lt-leb (2 ^ b) (run .level) (omega (arith, pow-pos b))) (fit-digits (run .length - 1) (run .length - 1) (ltb-false (baseOf b M) 2 h))
 
-  fit-runs : (runs : List LevelRun) → Runs M runs → anyOf large (flatMap (runCodes M (baseOf b M)) runs) ≡ false
+  fit-runs : (runs : List LevelRun) → LowRuns M runs → anyOf large (flatMap (runCodes M (baseOf b M)) runs) ≡ false
   unfolding flatMap anyOf
   fit-runs [] r = refl
   fit-runs (run ∷ runs) r = any-append large (runCodes M (baseOf b M) run) (flatMap (runCodes M (baseOf b M)) runs) (fit-run run (first-low r)) ∙ fit-runs runs (others r)

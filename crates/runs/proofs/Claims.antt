@@ -1,32 +1,32 @@
 -- Document 02, No. 5: what it asks to be shown. Assumes nothing.
-use mathlib.Core.Path.{_≡_, refl, sym, ap, _∙_}
+use mathlib.Core.Path.{_≡_, refl, sym, ap, ap₂, _∙_}
 use mathlib.Core.Bool.{Bool, true, false}
 use mathlib.Core.List.{List, [], _∷_, _++_, append-nil, flatMap}
-use Prim.Native.Nat.{ℕ, _+_, _-_, _*_, _/_, _^_, _≤_, _<_}
+use Prim.Native.Nat.{ℕ, zero, suc, _+_, _-_, _*_, _/_, _^_, _≤_, _<_}
 use native.Mathlib.Nat.{zero-mul, zero-div, zero-mod, le-div-iff-mul-le}
 use native.Mathlib.Omega.{arith}
 use lib.Dec.{ltb}
-use lib.ListN.{length, length-append, List·getD-eq-default}
+use lib.ListN.{length, replicate, length-append, List·getD-eq-default}
 use lib.Seq.{take-at}
 use borrow.Author.Tests.{ltb-true, ltb-false, eqb-true, eq-eqb}
 use Rattle.format.specs.Lists.{listed, anyOf, _over_}
 use Rattle.format.specs.Bits.{bitIn, bitAt, fieldOf, stringOf, roundedUp}
 use Rattle.format.specs.Layout.{levelSize, levelOctets}
-use Rattle.format.specs.Refusals.{Left, first, roomRefusals, left}
+use Rattle.format.specs.Refusals.{first, roomRefusals, left}
 use Rattle.format.specs.RunLength.{wholeCodes, codesUpTo, baseOf, levelsOf, levelsUpTo, onlyPadding, stopsBefore, codesRead, repeatsFirst, runLengthRefusals, runLengthUpTo}
 use Rattle.format.specs.WritingRunLength.{runsOf, levelCodes, levelPayload, writeRunLengthRefusals, writeRunLength}
-use Rattle.format.specs.declared.Stored.{Stored}
 use Rattle.format.specs.declared.Stored.the-variants as stored
 use Rattle.format.specs.declared.Unrolled.the-variants as unrolled
-use Rattle.laws.specs.First.{leaves, passed, tests}
-use Rattle.laws.specs.Lists.{both, where-holds, where-first}
+use Rattle.laws.specs.First.{leaves, clears, tests}
+use Rattle.laws.specs.Lists.{either-left, either-right, both, where-holds, where-first}
 use Rattle.laws.specs.Bits.{bit-listed, field-add}
 use Rattle.laws.specs.Strings.{bits-string, length-string, length-padded}
 use Rattle.laws.specs.Parts.{field-alone}
 use Rattle.laws.specs.Written.{fits-each}
 use Rattle.laws.specs.RunLength.{behind, zero-padding}
-use Rattle.runs.specs.Claims.{LevelsBack, AcceptedIsWritten, OnePayload, RunsAreLongest, NumberFive}
-use Rattle.runs.proofs.Answer.{spans}
+use Rattle.runs.specs.Claims.{LevelsBack, AcceptedIsWritten, WritableIsAccepted, OnePayload, RunsAreLongest, NumberFive}
+use Rattle.runs.proofs.These.{digits-these}
+use Rattle.runs.proofs.Answer.{accepted}
 use Rattle.runs.proofs.Longest.{runs-longest, runs-are}
 use Rattle.runs.proofs.Few.{payload-few}
 use Rattle.runs.proofs.Back.{levels-codes, first-code, codes-fit}
@@ -84,7 +84,7 @@ module _ (b M : ℕ) (levels : List ℕ) (some : 0 < b) (low : M ≤ 2 ^ b - 1) 
       (rw (levels-there, padding-there, eq-eqb (length levels) (length levels) refl))
 
   -- and wherever it stops, all levels are read
-  pub read-all : levelsUpTo b M payload read ≡ levels
+  read-all : levelsUpTo b M payload read ≡ levels
   unfolding codesRead levelsUpTo
   read-all = by-test (ltb read (length codes)) refl
     where
@@ -122,31 +122,45 @@ unfolding runLengthUpTo
 levels-back b M levels w lent =
     let payload = levelPayload b M levels in
     let read = codesRead b M (length levels) payload in
-    let all = read-all b M levels (w .some) (w .low) (w .none-above) in
+    let all = read-all b M levels (w .coding .some) (w .coding .low) (w .none-above) in
     let reached = ap length all in
     sym
     (leaves (λ r. left (unrolled.Refused r) lent) 6 (runLengthRefusals b M (length levels) payload read lent) _
-    (omega (arith, tests, w .some, w .few, w .low, w .limited, first-level b M levels (w .some) (w .low) (w .none-above), reached)))
+    (omega (arith, tests, w .coding .some, w .coding .few, w .coding .low, w .limited, first-level b M levels (w .coding .some) (w .coding .low) (w .none-above), reached)))
     ∙ ap
     (λ (l : List ℕ). first (λ r. left (unrolled.Refused r) lent) (roomRefusals levelSize lent (length levels)) (left (unrolled.Levels (length levels)) (flatMap levelOctets l over lent)))
     all
 
-one-payload : OnePayload
-one-payload b M levels others w v e p =
-    sym (read-all b M levels (w .some) (w .low) (w .none-above)) ∙ rw (e, p) (read-all b M others (v .some) (v .low) (v .none-above))
+-- levels of no bits are all 0
+zeros : (levels : List ℕ) → anyOf (ltb 0) levels ≡ false → levels ≡ replicate (length levels) 0
+unfolding anyOf
+zeros [] h = refl
+zeros (level ∷ levels) h =
+    let low = ltb-false 0 level (either-left (ltb 0 level) (anyOf (ltb 0) levels) h) in
+    ap₂ (λ (x : ℕ) (l : List ℕ). x ∷ l) (omega arith) (zeros levels (either-right (ltb 0 level) (anyOf (ltb 0) levels) h))
 
-accepted : AcceptedIsWritten
-unfolding writeRunLength
-accepted b M levels lent octets payload e =
-    let p = passed (λ r. left (stored.Refused r) lent) (writeRunLengthRefusals b M levels lent) _ (sym e) (λ r d. absurd (omega (arith, ap (λ (x : Left Stored). spans (x .answer)) d))) in
-    let size : octets .0 ≡ length (levelPayload b M levels) = omega (arith, ap (λ (x : Left Stored). spans (x .answer)) (p .1)) in
+one-payload : OnePayload
+one-payload zero M levels others low h k e p =
+    let none : M ≡ 0 = omega arith in
+    zeros levels (rw none at h) ∙ ap (λ (n : ℕ). replicate n 0) e ∙ sym (zeros others (rw none at k))
+one-payload (suc b) M levels others low h k e p =
+    sym (read-all (suc b) M levels (omega arith) low h) ∙ rw (e, p) (read-all (suc b) M others (omega arith) low k)
+
+accepted-written : AcceptedIsWritten
+accepted-written b M levels lent octets payload e =
+    let p = accepted b M levels lent (sym e) in
     let clear = p .0 in (
-      record { some = omega (arith, tests); few = omega (arith, tests); low = omega (arith, tests); none-above = clear .1 .1 .1 .0; limited = omega (arith, tests) },
-      rw (size, ap (λ (x : Left Stored). x .buffer) (p .1)) (take-at (levelPayload b M levels) _ (length (levelPayload b M levels)) refl),
+      record { coding = record { some = omega (arith, tests); few = omega (arith, tests); low = omega (arith, tests) }; none-above = clear .1 .1 .1 .0; limited = omega (arith, tests) },
+      rw (p .1, p .2) (take-at (levelPayload b M levels) _ (length (levelPayload b M levels)) refl),
     )
+
+writable-accepted : WritableIsAccepted
+unfolding writeRunLength
+writable-accepted b M levels lent w room =
+    sym (clears (λ r. left (stored.Refused r) lent) (writeRunLengthRefusals b M levels lent) _ (omega (arith, tests, w .coding .some, w .coding .few, w .coding .low, w .none-above, w .limited)))
 
 are-longest : RunsAreLongest
 are-longest levels = (runs-longest levels, λ runs l. sym (runs-are runs (l .none-empty) (l .none-twice)) ∙ ap runsOf (l .make))
 
 pub number-five : NumberFive
-number-five = (levels-back, accepted, one-payload, are-longest, payload-few)
+number-five = (levels-back, accepted-written, writable-accepted, payload-few, one-payload, are-longest, digits-these)

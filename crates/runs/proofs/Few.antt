@@ -10,21 +10,21 @@ use lib.ListN.{length, length-append, length-replicate}
 use borrow.Author.Tests.{ltb-true, ltb-false, eqb-false}
 use Rattle.format.specs.Lists.{anyOf}
 use Rattle.format.specs.Bits.{stringOf, roundedUp}
-use Rattle.format.specs.Refusals.{limit, Left, left}
+use Rattle.format.specs.Refusals.{limit, left}
 use Rattle.format.specs.RunLength.{baseOf}
-use Rattle.format.specs.WritingRunLength.{runsOf, runCodes, levelCodes, levelPayload, writeRunLengthRefusals, writeRunLength}
+use Rattle.format.specs.WritingRunLength.{runsOf, runCodes, levelCodes, levelPayload, writeRunLength}
 use Rattle.format.specs.declared.LevelRun.{LevelRun}
 use Rattle.format.specs.declared.OctetPlace.{OctetPlace}
-use Rattle.format.specs.declared.Stored.{Stored}
 use Rattle.format.specs.declared.Stored.the-variants as stored
 use Rattle.laws.specs.Bits.{product}
 use Rattle.laws.specs.Lists.{either-left, either-right}
-use Rattle.laws.specs.First.{passed, tests}
+use Rattle.laws.specs.First.{tests}
 use Rattle.laws.specs.Strings.{length-string, length-padded}
 use Rattle.runs.proofs.Digits.{digits-few}
 use Rattle.runs.proofs.Codes.{count-repeated, count-digits}
-use Rattle.runs.proofs.Answer.{spans}
-use Rattle.runs.proofs.Longest.{unrolled, empty, runs-longest}
+use Rattle.runs.proofs.Answer.{accepted}
+use Rattle.runs.specs.Claims.{unrolledRun, isEmpty}
+use Rattle.runs.proofs.Longest.{runs-longest}
 
 module _ (M base : ℕ) where
   run-few : (run : LevelRun) → 0 < run .length → length (runCodes M base run) ≤ run .length
@@ -37,18 +37,18 @@ module _ (M base : ℕ) where
           let e = count-digits (record { bits = 0; greatest = M; base = base }) run low some (refl, digits-few base low _) in
           omega (arith, e .0, e .1)
 
-  runs-few : (runs : List LevelRun) → anyOf empty runs ≡ false → length (flatMap (runCodes M base) runs) ≤ length (flatMap unrolled runs)
+  runs-few : (runs : List LevelRun) → anyOf isEmpty runs ≡ false → length (flatMap (runCodes M base) runs) ≤ length (flatMap unrolledRun runs)
   unfolding flatMap anyOf
   runs-few [] h = omega arith
   runs-few (run ∷ runs) h =
-      let first = eqb-false (run .length) 0 (either-left (eqb (run .length) 0) (anyOf empty runs) h) in
+      let first = eqb-false (run .length) 0 (either-left (eqb (run .length) 0) (anyOf isEmpty runs) h) in
       omega (
         arith,
         length-append (runCodes M base run) (flatMap (runCodes M base) runs),
-        length-append (unrolled run) (flatMap unrolled runs),
+        length-append (unrolledRun run) (flatMap unrolledRun runs),
         length-replicate (run .length) (run .level),
         run-few run (omega arith),
-        runs-few runs (either-right (eqb (run .length) 0) (anyOf empty runs) h),
+        runs-few runs (either-right (eqb (run .length) 0) (anyOf isEmpty runs) h),
       )
 
 pub codes-few : (b M : ℕ) (levels : List ℕ) → length (levelCodes b M levels) ≤ length levels
@@ -65,10 +65,8 @@ payload-few b M levels =
 
 -- so the octets of a payload fit 32 bits
 pub octets-few : (b M : ℕ) (levels lent : List ℕ) {octets : OctetPlace} {payload : List ℕ} → left (stored.Span octets) payload ≡ writeRunLength b M levels lent → octets .0 < 2 ^ 32
-unfolding writeRunLength
-octets-few b M levels lent {octets} e =
-    let p = passed (λ r. left (stored.Refused r) lent) (writeRunLengthRefusals b M levels lent) _ e (λ r d. absurd (omega (arith, ap (λ (x : Left Stored). spans (x .answer)) d))) in
-    let size : octets .0 ≡ length (levelPayload b M levels) = omega (arith, ap (λ (x : Left Stored). spans (x .answer)) (p .1)) in
+octets-few b M levels lent e =
+    let p = accepted b M levels lent e in
     let clear = p .0 in
     let bits : length (levelCodes b M levels) * b ≤ limit * 15 = product (length (levelCodes b M levels)) b limit 15 (omega (arith, tests, codes-few b M levels)) (omega (arith, tests)) in
-    omega (arith, size, length-padded (stringOf b (levelCodes b M levels)), length-string b (levelCodes b M levels))
+    omega (arith, p .1, length-padded (stringOf b (levelCodes b M levels)), length-string b (levelCodes b M levels))

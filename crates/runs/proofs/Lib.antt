@@ -4,6 +4,7 @@ pub mod Codes
 pub mod Putting
 pub mod Answer
 pub mod Longest
+pub mod These
 pub mod Few
 pub mod Back
 pub mod Claims

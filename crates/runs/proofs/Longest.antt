@@ -1,5 +1,5 @@
--- The longest runs of levels: they make the levels, none is empty, no two neighbours have one level, and no others are so. Assumes
--- nothing.
+-- The longest runs of levels: they make the levels, none is empty, no two neighbours are of one level, and no others are so.
+-- Assumes nothing.
 use mathlib.Core.Path.{_≡_, refl, sym, ap, _∙_}
 use mathlib.Core.Bool.{Bool, true, false, _||_}
 use mathlib.Core.List.{List, [], _∷_, _++_, append-assoc, map, flatMap}
@@ -14,62 +14,52 @@ use Rattle.format.specs.WritingRunLength.{runsFrom, runsOf}
 use Rattle.format.specs.declared.LevelRun.{LevelRun}
 use Rattle.laws.specs.Lists.{either-left, either-right}
 use Rattle.runs.specs.Runs.{startsWith}
-use Rattle.runs.specs.Claims.{anyTwice, Longest}
+use Rattle.runs.specs.Claims.{unrolledRun, isEmpty, levelOf, anyTwice, Longest}
 use Rattle.runs.proofs.Runs.{runs-first, any-replicate}
-
--- a run's levels, whether it has none, and which level it is of
-abbrev pub unrolled : LevelRun → List ℕ
-unrolled run = replicate (run .length) (run .level)
-
-abbrev pub empty : LevelRun → Bool
-empty run = eqb (run .length) 0
-
-abbrev level-of : LevelRun → ℕ
-level-of run = run .level
 
 -- ---- those that are written
 
-make-from : (level n : ℕ) (levels : List ℕ) → flatMap unrolled (runsFrom level n levels) ≡ replicate n level ++ levels
+make-from : (level n : ℕ) (levels : List ℕ) → flatMap unrolledRun (runsFrom level n levels) ≡ replicate n level ++ levels
 unfolding runsFrom flatMap
 make-from level n [] = refl
 make-from level n (next ∷ levels) = by-test (eqb next level) refl (make-from level (suc n) levels) (make-from next 1 levels)
   where
-    by-test : (t : Bool) → eqb next level ≡ t → flatMap unrolled (runsFrom level (suc n) levels) ≡ replicate (suc n) level ++ levels
-        → flatMap unrolled (runsFrom next 1 levels) ≡ replicate 1 next ++ levels → flatMap unrolled (runsFrom level n (next ∷ levels)) ≡ replicate n level ++ (next ∷ levels)
+    by-test : (t : Bool) → eqb next level ≡ t → flatMap unrolledRun (runsFrom level (suc n) levels) ≡ replicate (suc n) level ++ levels
+        → flatMap unrolledRun (runsFrom next 1 levels) ≡ replicate 1 next ++ levels → flatMap unrolledRun (runsFrom level n (next ∷ levels)) ≡ replicate n level ++ (next ∷ levels)
     by-test true e grown again =
         rw e
         (grown ∙ ap (λ (m : ℕ). replicate m level ++ levels) (sym (add-one n)) ∙ ap (λ (l : List ℕ). l ++ levels) (sym (replicate-append-replicate n 1 level))
         ∙ append-assoc (replicate n level) (replicate 1 level) levels ∙ ap (λ (x : ℕ). replicate n level ++ (x ∷ levels)) (sym (eqb-true next level e)))
     by-test false e grown again = rw e (ap (λ (l : List ℕ). replicate n level ++ l) again)
 
-some-from : (level n : ℕ) (levels : List ℕ) → 0 < n → anyOf empty (runsFrom level n levels) ≡ false
+some-from : (level n : ℕ) (levels : List ℕ) → 0 < n → anyOf isEmpty (runsFrom level n levels) ≡ false
 unfolding runsFrom anyOf
 some-from level n [] some = rw (ne-eqb n 0 (λ e. omega arith))
 some-from level n (next ∷ levels) some = by-test (eqb next level) refl (some-from level (suc n) levels (omega arith)) (some-from next 1 levels (omega arith))
   where
-    by-test : (t : Bool) → eqb next level ≡ t → anyOf empty (runsFrom level (suc n) levels) ≡ false → anyOf empty (runsFrom next 1 levels) ≡ false
-        → anyOf empty (runsFrom level n (next ∷ levels)) ≡ false
+    by-test : (t : Bool) → eqb next level ≡ t → anyOf isEmpty (runsFrom level (suc n) levels) ≡ false → anyOf isEmpty (runsFrom next 1 levels) ≡ false
+        → anyOf isEmpty (runsFrom level n (next ∷ levels)) ≡ false
     by-test true e grown again = rw e grown
     by-test false e grown again = rw (e, ne-eqb n 0 (λ e. omega arith)) again
 
 -- the first is of the first level
-starts-from : (x level n : ℕ) (levels : List ℕ) → startsWith x (map level-of (runsFrom level n levels)) ≡ eqb level x
+starts-from : (x level n : ℕ) (levels : List ℕ) → startsWith x (map levelOf (runsFrom level n levels)) ≡ eqb level x
 unfolding runsFrom startsWith
 starts-from x level n [] = refl
 starts-from x level n (next ∷ levels) = by-test (eqb next level) refl (starts-from x level (suc n) levels)
   where
-    by-test : (t : Bool) → eqb next level ≡ t → startsWith x (map level-of (runsFrom level (suc n) levels)) ≡ eqb level x
-        → startsWith x (map level-of (runsFrom level n (next ∷ levels))) ≡ eqb level x
+    by-test : (t : Bool) → eqb next level ≡ t → startsWith x (map levelOf (runsFrom level (suc n) levels)) ≡ eqb level x
+        → startsWith x (map levelOf (runsFrom level n (next ∷ levels))) ≡ eqb level x
     by-test true e grown = rw e grown
     by-test false e grown = rw e
 
-twice-from : (level n : ℕ) (levels : List ℕ) → anyTwice (map level-of (runsFrom level n levels)) ≡ false
+twice-from : (level n : ℕ) (levels : List ℕ) → anyTwice (map levelOf (runsFrom level n levels)) ≡ false
 unfolding runsFrom anyTwice startsWith
 twice-from level n [] = refl
 twice-from level n (next ∷ levels) = by-test (eqb next level) refl (twice-from level (suc n) levels) (twice-from next 1 levels)
   where
-    by-test : (t : Bool) → eqb next level ≡ t → anyTwice (map level-of (runsFrom level (suc n) levels)) ≡ false → anyTwice (map level-of (runsFrom next 1 levels)) ≡ false
-        → anyTwice (map level-of (runsFrom level n (next ∷ levels))) ≡ false
+    by-test : (t : Bool) → eqb next level ≡ t → anyTwice (map levelOf (runsFrom level (suc n) levels)) ≡ false → anyTwice (map levelOf (runsFrom next 1 levels)) ≡ false
+        → anyTwice (map levelOf (runsFrom level n (next ∷ levels))) ≡ false
     by-test true e grown again = rw e grown
     by-test false e grown again = rw (e, starts-from level next 1 levels, e) again
 
@@ -81,50 +71,50 @@ runs-longest (level ∷ levels) = record { make = make-from level 1 levels; none
 -- ---- and no others
 
 -- a list of runs, none of them empty, begins with its first run's level
-starts-unrolled : (x : ℕ) (runs : List LevelRun) → anyOf empty runs ≡ false → startsWith x (flatMap unrolled runs) ≡ startsWith x (map level-of runs)
+starts-unrolled : (x : ℕ) (runs : List LevelRun) → anyOf isEmpty runs ≡ false → startsWith x (flatMap unrolledRun runs) ≡ startsWith x (map levelOf runs)
 unfolding flatMap startsWith anyOf
 starts-unrolled x [] h = refl
 starts-unrolled x (run ∷ runs) h = by-size (run .length) refl
   where
-    by-size : (n : ℕ) → run .length ≡ n → startsWith x (flatMap unrolled (run ∷ runs)) ≡ eqb (run .level) x
-    by-size zero e = absurd (eqb-false (run .length) 0 (either-left (eqb (run .length) 0) (anyOf empty runs) h) e)
+    by-size : (n : ℕ) → run .length ≡ n → startsWith x (flatMap unrolledRun (run ∷ runs)) ≡ eqb (run .level) x
+    by-size zero e = absurd (eqb-false (run .length) 0 (either-left (eqb (run .length) 0) (anyOf isEmpty runs) h) e)
     by-size (suc n) e = rw e
 
-pub runs-are : (runs : List LevelRun) → anyOf empty runs ≡ false → anyTwice (map level-of runs) ≡ false → runsOf (flatMap unrolled runs) ≡ runs
+pub runs-are : (runs : List LevelRun) → anyOf isEmpty runs ≡ false → anyTwice (map levelOf runs) ≡ false → runsOf (flatMap unrolledRun runs) ≡ runs
 unfolding runsOf flatMap anyOf anyTwice
 runs-are [] some apart = refl
 runs-are (run ∷ runs) some apart =
-    let rest = either-right (eqb (run .length) 0) (anyOf empty runs) some in
-    let first = eqb-false (run .length) 0 (either-left (eqb (run .length) 0) (anyOf empty runs) some) in
-    let next = either-left (startsWith (run .level) (map level-of runs)) (anyTwice (map level-of runs)) apart in
-    runs-first (run .level) (run .length) (flatMap unrolled runs) (omega arith) (starts-unrolled (run .level) runs rest ∙ next)
-    ∙ ap (λ (l : List LevelRun). run ∷ l) (runs-are runs rest (either-right (startsWith (run .level) (map level-of runs)) (anyTwice (map level-of runs)) apart))
+    let rest = either-right (eqb (run .length) 0) (anyOf isEmpty runs) some in
+    let first = eqb-false (run .length) 0 (either-left (eqb (run .length) 0) (anyOf isEmpty runs) some) in
+    let next = either-left (startsWith (run .level) (map levelOf runs)) (anyTwice (map levelOf runs)) apart in
+    runs-first (run .level) (run .length) (flatMap unrolledRun runs) (omega arith) (starts-unrolled (run .level) runs rest ∙ next)
+    ∙ ap (λ (l : List LevelRun). run ∷ l) (runs-are runs rest (either-right (startsWith (run .level) (map levelOf runs)) (anyTwice (map levelOf runs)) apart))
 
 -- ---- run by run
 
 -- runs of which none is empty, and whose levels are none above M: so is the first, and so are the others
-pub record Runs (M : ℕ) (runs : List LevelRun) : Type 0 where
-  pub none-empty : anyOf empty runs ≡ false
-  pub none-above : anyOf (ltb M) (flatMap unrolled runs) ≡ false
+pub record LowRuns (M : ℕ) (runs : List LevelRun) : Type 0 where
+  pub none-empty : anyOf isEmpty runs ≡ false
+  pub none-above : anyOf (ltb M) (flatMap unrolledRun runs) ≡ false
 
-module _ {M : ℕ} {run : LevelRun} {runs : List LevelRun} (r : Runs M (run ∷ runs)) where
+module _ {M : ℕ} {run : LevelRun} {runs : List LevelRun} (r : LowRuns M (run ∷ runs)) where
   pub first-some : 0 < run .length
   unfolding anyOf
-  first-some = let h = eqb-false (run .length) 0 (either-left (eqb (run .length) 0) (anyOf empty runs) (r .none-empty)) in omega arith
+  first-some = let h = eqb-false (run .length) 0 (either-left (eqb (run .length) 0) (anyOf isEmpty runs) (r .none-empty)) in omega arith
 
-  levels-above : (ltb M (run .level) || anyOf (ltb M) (flatMap unrolled runs)) ≡ false
+  levels-above : (ltb M (run .level) || anyOf (ltb M) (flatMap unrolledRun runs)) ≡ false
   unfolding flatMap
-  levels-above = sym (any-replicate (ltb M) (run .level) (run .length) (flatMap unrolled runs) first-some) ∙ r .none-above
+  levels-above = sym (any-replicate (ltb M) (run .level) (run .length) (flatMap unrolledRun runs) first-some) ∙ r .none-above
 
   pub first-low : run .level ≤ M
-  first-low = ltb-false M (run .level) (either-left (ltb M (run .level)) (anyOf (ltb M) (flatMap unrolled runs)) levels-above)
+  first-low = ltb-false M (run .level) (either-left (ltb M (run .level)) (anyOf (ltb M) (flatMap unrolledRun runs)) levels-above)
 
-  pub others : Runs M runs
+  pub others : LowRuns M runs
   unfolding anyOf
   others = record {
-    none-empty = either-right (eqb (run .length) 0) (anyOf empty runs) (r .none-empty);
-    none-above = either-right (ltb M (run .level)) (anyOf (ltb M) (flatMap unrolled runs)) levels-above;
+    none-empty = either-right (eqb (run .length) 0) (anyOf isEmpty runs) (r .none-empty);
+    none-above = either-right (ltb M (run .level)) (anyOf (ltb M) (flatMap unrolledRun runs)) levels-above;
   }
 
-pub runs-of : (M : ℕ) (levels : List ℕ) → anyOf (ltb M) levels ≡ false → Runs M (runsOf levels)
+pub runs-of : (M : ℕ) (levels : List ℕ) → anyOf (ltb M) levels ≡ false → LowRuns M (runsOf levels)
 runs-of M levels h = let l = runs-longest levels in record { none-empty = l .none-empty; none-above = rw (l .make) h }

@@ -1,21 +1,26 @@
--- That each premise of the claims of document 02, No. 5, is needed: the smallest input that shows it, all other premises being stated
--- to hold. Assumes nothing.
+-- Each premise of the claims of document 02, No. 5, is needed: small inputs of which all others are stated to hold, and of which
+-- what is claimed does not. Assumes nothing.
 use mathlib.Core.Path.{_≡_, refl}
 use mathlib.Core.Bool.{false}
 use mathlib.Core.List.{List, [], _∷_, flatMap}
-use Prim.Native.Nat.{ℕ, zero, suc, _-_, _^_, _≤_, _<_}
+use Prim.Native.Nat.{ℕ, _-_, _^_, _≤_, _<_}
+use native.Mathlib.Nat.{one-mul}
 use native.Mathlib.Omega.{arith}
-use lib.Dec.{ltb}
+use lib.Dec.{ltb, leb}
+use borrow.Author.Tests.{leb-false}
 use lib.ListN.{length, replicate, length-replicate}
 use Rattle.format.specs.Lists.{listed, anyOf}
 use Rattle.format.specs.Bits.{bitIn, numberOf}
 use Rattle.format.specs.Refusals.{limit, first, left}
 use Rattle.format.specs.RunLength.{repeatsFirst, runLengthUpTo, runLength}
-use Rattle.format.specs.WritingRunLength.{runsFrom, runsOf, digitsUpTo, digitsOf, runCodes, levelCodes, levelPayload}
-use Rattle.format.specs.Seen.{Seen, lent, refused, unrolling}
+use Rattle.format.specs.WritingRunLength.{runsFrom, runsOf, digitsUpTo, digitsOf, runCodes, levelCodes, levelPayload, writeRunLength}
+use Rattle.format.specs.Seen.{Seen, lent, refused, unrolling, writingLevels}
 use Rattle.format.specs.declared.Refusal.the-variants.{Points}
 use Rattle.format.specs.declared.Unrolled.the-variants as unrolled
+use Rattle.laws.specs.Lists.{either-left, either-right}
 use Rattle.laws.specs.First.{decides, tests}
+use Rattle.runs.specs.Claims.{valueOf}
+use Rattle.runs.proofs.Runs.{any-same}
 use Rattle.runs.proofs.Claims.{first-level}
 
 abbrev Low : ℕ → ℕ → Type 0
@@ -52,27 +57,47 @@ unfolding listed anyOf first flatMap bitIn numberOf runsFrom runsOf digitsUpTo d
 none-above = (omega arith, omega arith, omega arith, omega arith, refl)
 
 -- and more levels than the limit are 9. So long a list is not computed.
-zeros-low : (n : ℕ) → NoneAbove 0 (replicate n 0)
-unfolding anyOf
-zeros-low zero = refl
-zeros-low (suc n) = zeros-low n
-
 many : (levels : List ℕ) → NoneAbove 0 levels → limit < length levels → left (unrolled.Refused Points) [] ≡ runLength 1 0 (length levels) (levelPayload 1 0 levels) []
 unfolding runLengthUpTo
 many levels h l = decides (λ r. left (unrolled.Refused r) []) Points _ _ (omega (arith, tests, first-level 1 0 levels (omega arith) (omega arith) h))
 
 limited : (n : ℕ) → limit < n → (0 < 1) × (1 ≤ 15) × Low 1 0 × NoneAbove 0 (replicate n 0)
     × (left (unrolled.Refused Points) [] ≡ runLength 1 0 (length {A = ℕ} (replicate n 0)) (levelPayload 1 0 (replicate n 0)) [])
-limited n l = (omega arith, omega arith, omega arith, zeros-low n, many (replicate n 0) (zeros-low n) (omega (arith, length-replicate {A = ℕ} n 0)))
+limited n l = (omega arith, omega arith, omega arith, any-same (ltb 0) 0 n refl, many (replicate n 0) (any-same (ltb 0) 0 n refl) (omega (arith, length-replicate {A = ℕ} n 0)))
 
 -- ---- one list, one payload
 
--- of two lists that differ in their count alone: 0 and 0 0 with b 1 and M 1
-count : (levelPayload 1 1 (0 ∷ []) ≡ levelPayload 1 1 (0 ∷ 0 ∷ [])) × NoneAbove 1 (0 ∷ []) × NoneAbove 1 (0 ∷ 0 ∷ [])
+-- M of more than b bits: 0 and 2 with b 1 and M 2
+low-payload : NoneAbove 2 (0 ∷ []) × NoneAbove 2 (2 ∷ []) × (length {A = ℕ} (0 ∷ []) ≡ length {A = ℕ} (2 ∷ [])) × (levelPayload 1 2 (0 ∷ []) ≡ levelPayload 1 2 (2 ∷ []))
 unfolding listed anyOf flatMap bitIn numberOf runsFrom runsOf runCodes levelCodes
-count = (refl, refl, refl)
+low-payload = (refl, refl, refl, refl)
 
--- of two of which one is not accepted: 0, and 2 with b 1 and M 1
-accepted : (levelPayload 1 1 (0 ∷ []) ≡ levelPayload 1 1 (2 ∷ [])) × (length {A = ℕ} (0 ∷ []) ≡ length {A = ℕ} (2 ∷ [])) × NoneAbove 1 (0 ∷ [])
+-- a level above M: 0 and 2 with b 1 and M 1. Which of the two lists comes first is all one
+none-above-payload : Low 1 1 × NoneAbove 1 (0 ∷ []) × (length {A = ℕ} (0 ∷ []) ≡ length {A = ℕ} (2 ∷ [])) × (levelPayload 1 1 (0 ∷ []) ≡ levelPayload 1 1 (2 ∷ []))
 unfolding listed anyOf flatMap bitIn numberOf runsFrom runsOf runCodes levelCodes
-accepted = (refl, refl, refl)
+none-above-payload = (omega arith, refl, refl, refl)
+
+-- another count: 0 and 0 0 with b 1 and M 1
+count-payload : Low 1 1 × NoneAbove 1 (0 ∷ []) × NoneAbove 1 (0 ∷ 0 ∷ []) × (levelPayload 1 1 (0 ∷ []) ≡ levelPayload 1 1 (0 ∷ 0 ∷ []))
+unfolding listed anyOf flatMap bitIn numberOf runsFrom runsOf runCodes levelCodes
+count-payload = (omega arith, refl, refl, refl)
+
+-- another payload: 0 and 1 with b 1 and M 1
+payload : Low 1 1 × NoneAbove 1 (0 ∷ []) × NoneAbove 1 (1 ∷ []) × (length {A = ℕ} (0 ∷ []) ≡ length {A = ℕ} (1 ∷ []))
+unfolding anyOf
+payload = (omega arith, refl, refl, refl)
+
+-- ---- the others
+
+-- what has no room is not accepted
+room : writingLevels 1 1 (0 ∷ []) 0 ≡ refused 10 (lent 0 ∷ [])
+unfolding listed anyOf first flatMap bitIn numberOf runsFrom runsOf runCodes levelCodes writeRunLength
+room = refl
+
+-- in base 1 no digits come to 2, since each is 0
+base-one : (digits : List ℕ) → anyOf (leb 1) digits ≡ false → valueOf 1 digits ≡ 0
+unfolding anyOf valueOf
+base-one [] h = refl
+base-one (digit ∷ digits) h =
+    let none = leb-false 1 digit (either-left (leb 1 digit) (anyOf (leb 1) digits) h) in
+    omega (arith, base-one digits (either-right (leb 1 digit) (anyOf (leb 1) digits) h), one-mul (valueOf 1 digits))

@@ -18,7 +18,7 @@ use Rattle.format.specs.declared.LevelRun.{LevelRun}
 use Rattle.laws.specs.Lists.{length-listed, any-none}
 use Rattle.laws.specs.Stores.{field-at}
 use Rattle.laws.specs.Bits.{Octets, gathered, gathered-bits, bit-lt, number-lt, number-add}
-use Rattle.runs.specs.Runs.{startsWith, Stands, Begins}
+use Rattle.runs.specs.Runs.{startsWith, Stands, fourTimes, Begins}
 
 -- ---- a run and what stands behind it
 
@@ -39,6 +39,11 @@ pub runs-first : (level n : ℕ) (behind : List ℕ) → 0 < n → startsWith le
 unfolding runsOf
 runs-first level zero behind l h = absurd (omega arith)
 runs-first level (suc n) behind l h = let e : 1 + n ≡ suc n = omega arith in runs-add level 1 n behind ∙ rw e (runs-end level (suc n) behind h)
+
+pub any-same : (f : ℕ → Bool) (level n : ℕ) → f level ≡ false → anyOf f (replicate n level) ≡ false
+unfolding anyOf
+any-same f level zero h = refl
+any-same f level (suc n) h = rw h (any-same f level n h)
 
 pub any-replicate : (f : ℕ → Bool) (level n : ℕ) (behind : List ℕ) → 0 < n → anyOf f (replicate n level ++ behind) ≡ (f level || anyOf f behind)
 unfolding anyOf
@@ -126,7 +131,7 @@ module _ (levels : List ℕ) (level end : ℕ) {t : Bool} (e : t ≡ startsWith 
 
 -- ---- four at a time
 
-four-same : {level a b c d : ℕ} → level < 65536 → a < 65536 → b < 65536 → c < 65536 → d < 65536 → ((a * 65536 + b) * 65536 + c) * 65536 + d ≡ level * 281479271743489
+four-same : {level a b c d : ℕ} → level < 65536 → a < 65536 → b < 65536 → c < 65536 → d < 65536 → ((a * 65536 + b) * 65536 + c) * 65536 + d ≡ level * fourTimes
     → (level ≡ a) × (level ≡ b) × (level ≡ c) × (level ≡ d)
 four-same {level} {a} {b} {c} {d} l la lb lc ld e =
     let first : level ≡ a = omega arith in
@@ -143,12 +148,12 @@ module _ (octets : List ℕ) (o : Octets octets) (place level : ℕ) (small : le
       let inside : place + i < wholeOnes levelSize octets = omega (arith, length-listed (wholeOnes levelSize octets) (λ k. numberAt octets (0 + k * 16) 16)) in
       sym (field-at octets 16 (wholeOnes levelSize octets) (place + i) inside) ∙ ap (λ (p : ℕ). numberAt octets p 16) e
 
-  pub stands-four : {x : ℕ} → x ≡ gathered octets (place * levelSize) 8 → x ≡ level * 281479271743489 → Stands (levelsIn octets) place level (place + 4)
+  pub stands-four : {x : ℕ} → x ≡ gathered octets (place * levelSize) 8 → x ≡ level * fourTimes → Stands (levelsIn octets) place level (place + 4)
   stands-four ex e =
       let p : ℕ = place * levelSize * 8 in
       let f = bitAt octets in
       let low : (q : ℕ) → numberAt octets q 16 < 2 ^ 16 = λ q. number-lt (bit-lt 8 octets) q 16 in
-      let all : numberAt octets p 64 ≡ level * 281479271743489 = sym (gathered-bits octets o (place * levelSize) 8) ∙ sym ex ∙ e in
+      let all : numberAt octets p 64 ≡ level * fourTimes = sym (gathered-bits octets o (place * levelSize) 8) ∙ sym ex ∙ e in
       let split : numberAt octets p 64 ≡ ((numberAt octets (p + 0) 16 * 65536 + numberAt octets (p + 16) 16) * 65536 + numberAt octets (p + 32) 16) * 65536 + numberAt octets (p + 48) 16 =
       number-add f p 48 16
       ∙ ap (λ (x : ℕ). x * 65536 + numberAt octets (p + 48) 16)

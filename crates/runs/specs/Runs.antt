@@ -2,7 +2,7 @@
 use mathlib.Core.Path.{_≡_}
 use mathlib.Core.Bool.{Bool, false}
 use mathlib.Core.List.{List, [], _∷_, _++_, map}
-use Prim.Native.Nat.{ℕ, _+_, _-_, _<_, _≤_}
+use Prim.Native.Nat.{ℕ, _+_, _-_, _^_, _<_, _≤_}
 use lib.Dec.{eqb, ltb}
 use lib.ListN.{length, replicate, drop}
 use Rattle.format.specs.Lists.{anyOf}
@@ -26,6 +26,10 @@ pub record Stands (levels : List ℕ) (place level end : ℕ) : Type 0 where
   pub low : place ≤ end
   pub within : end ≤ length levels
   pub here : drop place levels ≡ replicate (end - place) level ++ drop end levels
+
+-- a number of sixteen bits, times this, stands four times in 64 bits
+abbrev pub fourTimes : ℕ
+fourTimes = 2 ^ 48 + 2 ^ 32 + 2 ^ 16 + 1
 
 -- the run that begins at a place, and goes on as far as it can
 pub record Begins (levels : List ℕ) (place : ℕ) (run : LevelRun) : Type 0 where

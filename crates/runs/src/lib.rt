@@ -28,8 +28,8 @@ pub struct LevelCoding {
     pub base: usize,
 }
 
-// A number of sixteen bits, times this, stands four times in 64 bits.
-const FOUR_TIMES: u64 = 281479271743489;
+// 2^48 + 2^32 + 2^16 + 1: a number of sixteen bits, times this, stands four times in 64 bits.
+const FOUR_TIMES: u64 = 281474976710656 + 4294967296 + 65536 + 1;
 
 // How many levels a list has. "spare octets short of a whole one are not used"
 fn count_of(levels: &[u8]) -> usize
@@ -46,7 +46,8 @@ fn level_at(levels: &[u8], k: usize) -> usize
     layout::level_in(levels, k) as usize
 }
 
-// Whether a level stands at the next four places: their eight octets are compared at once. No farther than the list.
+// Whether the eight octets from a place on are those of a level four times. Then it stands at the next four places; where they
+// are not, or are not there, nothing is said, since `run_at` goes on by single places.
 fn four_stand(levels: &[u8], place: usize, level: usize) -> bool
     requires { ⌜ (place ≤ length (levelsIn (now levels))) × (level < 2 ^ 16) ⌝ }
     ensures { λ r. ⌜ (r ≡ true → Stands (levelsIn (now (levels .entry))) place level (place + 4)) ⌝ }
@@ -58,7 +59,7 @@ fn four_stand(levels: &[u8], place: usize, level: usize) -> bool
     octets == (level as u64) * FOUR_TIMES
 }
 
-// How far a level stands from a place on, by four places at a time.
+// A place up to which a level stands, found by four places at a time: not always its last.
 fn fours_from(levels: &[u8], place: usize, level: usize) -> usize
     requires { ⌜ (place ≤ length (levelsIn (now levels))) × (level < 2 ^ 16) ⌝ }
     ensures { λ r. ⌜ Stands (levelsIn (now (levels .entry))) place level r ⌝ }
@@ -230,6 +231,7 @@ fn write_levels(
     Stored::Span(octets)
 }
 
+// How b and M that 5 lets pass code levels.
 fn coding_of(bits: u8, greatest: u16) -> LevelCoding
     requires { ⌜ Clear (codeRefusals bits greatest) ⌝ }
     ensures { λ r. ⌜ (r .bits ≡ bits) × (r .greatest ≡ greatest) × Codable r ⌝ }
