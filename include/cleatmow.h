@@ -308,7 +308,7 @@ uint32_t cleatmow_run_length(
  *              list has a payload of no octets
  * levels_len   how many octets the list has
  * payload      lent: room for the octets of Section 7 after its five-octet header. There are never more codes than
- *              levels, so (levels * bits + 7) / 8 octets are always enough
+ *              levels, so (count of levels * bits + 7) / 8 octets are always enough
  * payload_len  how many octets are lent; more than the payload takes is fine
  * octets       lent: one value, for how many octets the payload has
  *

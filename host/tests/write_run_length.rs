@@ -71,7 +71,7 @@ fn greatest_levels(bits: u8) -> Vec<u16> {
 fn sentences_of_the_request() {
     assert_eq!(hold(4, 9, &[3, 3, 3, 3, 3, 3, 3, 3, 3, 5]), [0x3C, 0xB5]);
     assert_eq!(hold(4, 9, &[3, 3, 3, 5]), [0x3C, 0x50]);
-    // The padding is not a level here, though it could be one: the level itself has a code more.
+    // The same octets: what pads the list above is the code of level 0 here, and the declared count tells them apart.
     assert_eq!(hold(4, 9, &[3, 3, 3, 5, 0]), [0x3C, 0x50]);
     assert_eq!(hold(4, 9, &[3, 3, 3, 5, 0, 0]), [0x3C, 0x50, 0xB0]);
     // "none at all for a run of one"
@@ -264,7 +264,7 @@ fn every_short_list() {
         lists += every_list(bits, 1, 10);
         lists += every_list(bits, 0, 300);
     }
-    // A level from both ends of the range, under bases 4 to 0.
+    // Every level of the range, under bases 4 to 0.
     for max_level in 11..16 {
         lists += every_list(4, max_level, 3);
     }
@@ -276,7 +276,7 @@ fn every_short_list() {
 #[test]
 fn lists_by_chance_come_back() {
     let mut chance = Numbers::new(5);
-    let mut shared = 0;
+    let mut with_runs = 0;
     for bits in 1..=15 {
         let mut most = greatest_levels(bits);
         most.extend((0..20).map(|_| chance.below(1 << bits) as u16));
@@ -284,12 +284,12 @@ fn lists_by_chance_come_back() {
             for _ in 0..25 {
                 // Runs that follow one another may have one level, and are one longest run then.
                 let levels = list_by_chance(&mut chance, max_level);
-                shared += usize::from(levels.windows(2).any(|two| two[0] == two[1]));
+                with_runs += usize::from(levels.windows(2).any(|two| two[0] == two[1]));
                 hold(bits, max_level, &levels);
             }
         }
     }
-    assert!(shared > 5_000, "{shared}");
+    assert!(with_runs > 5_000, "{with_runs}");
 }
 
 /// Run lengths where a digit more is needed, and about them: base^j, less one and one and two more, for every j.

@@ -1,5 +1,5 @@
--- Each premise of the claims of document 02, No. 5, is needed: small inputs of which all others are stated to hold, and of which
--- what is claimed does not. Assumes nothing.
+-- Each premise of the claims of document 02, No. 5, is needed: small inputs of which all others are stated to hold, and what is
+-- claimed does not. Assumes nothing.
 use mathlib.Core.Path.{_≡_, refl}
 use mathlib.Core.Bool.{false}
 use mathlib.Core.List.{List, [], _∷_, flatMap}

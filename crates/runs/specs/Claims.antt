@@ -1,5 +1,6 @@
--- What document 02, No. 5, asks to be shown, that reading gives the levels back; and what its other words come to. To be read beside
--- it. The proofs stand in proofs/Claims.antt, and what shows that each premise is needed in proofs/Needed.antt. Assumes nothing.
+-- What document 02, No. 5, asks to be shown, that reading gives the levels back, and what its other words come to. To be read
+-- beside it. The proofs stand in proofs/Claims.antt, and what shows that each premise is needed in proofs/Needed.antt. Assumes
+-- nothing.
 use mathlib.Core.Path.{_≡_}
 use mathlib.Core.Bool.{Bool, false, _||_}
 use mathlib.Core.List.{List, [], _∷_, map, flatMap}

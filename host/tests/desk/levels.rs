@@ -70,7 +70,7 @@ fn texts_in_other_forms() {
     let good = text_of(4, 9, &[0, 1, 2, 0, 7], &CASE_LEVELS);
     let first = good.lines().next().unwrap();
     let lines = good.lines().skip(2).collect::<Vec<_>>().join("\n");
-    let none = "of no level is it said what it stands for";
+    let none = "it is said of no level what it stands for";
     let carried = "what the levels stand for is as the text has it, and is not read here";
     let empty = first.replace("points 10", "points 0");
     for (place, (text, right, values)) in [

@@ -106,14 +106,19 @@ fn pattern(octets: usize, flip: u8) -> impl Iterator<Item = u8> {
 }
 
 /// A whole number of some size.
-trait Whole {}
+///
+/// # Safety
+///
+/// Any octets, as many as it has, are one.
+unsafe trait Whole {}
 
-impl Whole for u32 {}
-impl Whole for i64 {}
+// SAFETY: these are plain numbers without a bit to spare.
+unsafe impl Whole for u32 {}
+unsafe impl Whole for i64 {}
 
 /// The number that stands in these octets, for a call that is lent a value.
 fn value<T: Whole>(octets: &mut [u8]) -> &mut T {
-    // SAFETY: any octets are a number, as many as it has.
+    // SAFETY: any octets are such a number.
     match unsafe { octets.align_to_mut() } {
         ([], [number], []) => number,
         _ => panic!("the octets of a number are not where one may stand"),

@@ -214,12 +214,16 @@ impl Words {
                 to: self.to()?,
                 map: self.map()?,
             }),
-            Topic::Levels => match self.value("--write") {
-                Some(text) => Command::WriteLevels { text: text.into(), to: self.to()? },
-                None if self.flag("--to") => return self.wrong("--to is said without --write"),
-                None => Command::Levels { map: self.map()? },
-            },
+            Topic::Levels => self.levels()?,
             Topic::Split => Command::Split { to: self.to()?, map: self.map()? },
+        })
+    }
+
+    fn levels(&mut self) -> Result<Command, Trouble> {
+        Ok(match self.value("--write") {
+            Some(text) => Command::WriteLevels { text: text.into(), to: self.to()? },
+            None if self.flag("--to") => return self.wrong("--to is said without --write"),
+            None => Command::Levels { map: self.map()? },
         })
     }
 

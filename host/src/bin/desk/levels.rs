@@ -6,12 +6,15 @@ use crate::files::read;
 use crate::map::{payload, section5};
 use crate::progress::{printing, step};
 use crate::shown;
-use crate::source::{octets_of, whole_number, Sections, MOST_OF_A_SECTION};
+use crate::source::{octets_of, whole_number, Sections};
 use crate::trouble::Trouble;
 use cleatmow::{run_length, section7_of, write_run_length, Refusal, Section5, TemplateNumbers};
 use std::fmt;
 use std::io::Write;
 use std::path::Path;
+
+/// The most octets that a text is read of: that of as many levels as are written has less than a quarter of them.
+const MOST_OF_A_TEXT: u64 = 1 << 28;
 
 /// What stands before the octets of Section 5 that a text carries.
 const VALUES: &str = "# Section 5 from octet 15 on: ";
@@ -87,7 +90,7 @@ pub fn show(map: &Path, out: &mut impl Write) -> Result<(), Trouble> {
 /// Writes a map of a text.
 pub fn write_text(text: &Path, to: &Path, out: &mut impl Write) -> Result<(), Trouble> {
     let name = shown::path(text);
-    let octets = read(text, MOST_OF_A_SECTION)?;
+    let octets = read(text, MOST_OF_A_TEXT)?;
     let Text { head, values, levels } = Text::read(&name, &String::from_utf8_lossy(&octets))?;
     let Head { bits, max_level, points } = head;
     let doing = || format!("writing {}", shown::many(points, "level"));
@@ -104,7 +107,7 @@ pub fn write_text(text: &Path, to: &Path, out: &mut impl Write) -> Result<(), Tr
         let levels = shown::many(points, "level");
         line(out, "text", &format!("{name}: {levels}, bits {bits}, greatest level {max_level}"))?;
         let said = match values == NO_VALUES {
-            true => "of no level is it said what it stands for",
+            true => "it is said of no level what it stands for",
             false => "what the levels stand for is as the text has it, and is not read here",
         };
         line(out, "values", said)?;

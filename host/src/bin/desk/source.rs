@@ -12,7 +12,7 @@ use std::str::FromStr;
 
 /// The most octets that a section is read of. A map of as many points and groups as unpacking accepts has less than a
 /// quarter of them.
-pub const MOST_OF_A_SECTION: u64 = 1 << 28;
+const MOST_OF_A_SECTION: u64 = 1 << 28;
 
 /// The most octets that a GRIB2 file is read of.
 const MOST_OF_A_FILE: u64 = 1 << 30;
