@@ -143,7 +143,7 @@ impl Topic {
                 example: "desk pack gust.grib2 --cut-columns 93-124 --cut-rows 15-30 --to site",
             },
             Topic::Levels => Text {
-                usage: "desk levels MAP\n  desk levels --write TEXT --to NAME",
+                usage: "desk levels MAP, desk levels --write TEXT --to NAME",
                 what: &[
                     "Prints the levels of a map under template 5.200 in their order, one a line, below two lines that \
                      begin with #: the bits of a code, the greatest level and how many points there are; and, in \
