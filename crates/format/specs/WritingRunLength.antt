@@ -14,7 +14,7 @@ use Rattle.format.specs.declared.Stored.{Stored}
 use Rattle.format.specs.declared.Stored.the-variants as stored
 
 -- "each longest run": those of a level that has stood n times, and of the levels behind it. While the level stays, the run
--- grows
+-- grows; the others are named once, so that a long run computes
 unfoldable pub runsFrom : ℕ → ℕ → List ℕ → List LevelRun
 runsFrom level n [] = record { level = level; length = n } ∷ []
 runsFrom level n (next ∷ levels) =

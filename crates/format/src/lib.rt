@@ -49,7 +49,7 @@ pub enum Fetched {
     Refused(Refusal),
 }
 
-// What the bit writer answers: the octets that it spans.
+// What the bit writer answers, and whatever else writes octets: how many it spans.
 pub enum Stored {
     Span(OctetPlace),
     Refused(Refusal),
