@@ -3,7 +3,7 @@
 
 use std::fmt::{self, Display, Formatter};
 
-use cleatmow::{LEVEL_OCTETS, levels_as_octets, write_run_length_into};
+use cleatmow::{LEVEL_OCTETS, Section5, TemplateNumbers, levels_as_octets, write_run_length_into};
 use oracle::Outcome::{Answer, Refused};
 use oracle::dice::Dice;
 use oracle::runs::{Coding, MOST_POINTS, refusal_for};
@@ -116,6 +116,7 @@ pub fn compare(scale: u64) -> Tally {
     comparison.made();
     comparison.lent();
     comparison.limits();
+    comparison.samples();
     comparison.tally
 }
 
@@ -231,6 +232,24 @@ impl Comparison {
             for count in MOST_POINTS - 1..=MOST_POINTS + 1 {
                 self.one(Coding { bits, max_level }, &vec![max_level; count as usize], None);
             }
+        }
+    }
+
+    /// The levels of the maps of samples/ that are accepted, by other writers and by hand.
+    fn samples(&mut self) {
+        self.stage("the maps of samples/", 17, 7);
+        for line in include_str!("../../../../samples/others.txt").lines() {
+            let value = |key| line.split(' ').find_map(|word| word.strip_prefix(key)).unwrap_or_default();
+            if (value("t="), value("doc=")) != ("200", "same") {
+                continue;
+            }
+            let octets = |key| words::octets(value(key)).expect("the file has octets there");
+            let section5 = Section5::from_octets(&octets("s5=")).expect("the file has Section 5 there");
+            let TemplateNumbers::RunLength { bits, max_level } = section5.numbers else {
+                panic!("no map of levels: {line}");
+            };
+            let levels = cleatmow::run_length(bits, max_level, section5.declared, &octets("pay="));
+            self.one(Coding { bits, max_level }, &levels.expect("document 01 gives its levels"), None);
         }
     }
 }
