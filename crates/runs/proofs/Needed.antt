@@ -15,12 +15,14 @@ use Rattle.format.specs.Refusals.{limit, first, left}
 use Rattle.format.specs.RunLength.{repeatsFirst, runLengthUpTo, runLength}
 use Rattle.format.specs.WritingRunLength.{runsFrom, runsOf, digitsUpTo, digitsOf, runCodes, levelCodes, levelPayload, writeRunLength}
 use Rattle.format.specs.Seen.{Seen, lent, refused, unrolling, writingLevels}
-use Rattle.format.specs.declared.Refusal.the-variants.{Points}
+use Rattle.format.specs.declared.Refusal.the-variants.{Points, Numbers}
+use Rattle.format.specs.declared.Stored.the-variants as stored
 use Rattle.format.specs.declared.Unrolled.the-variants as unrolled
 use Rattle.laws.specs.Lists.{either-left, either-right}
 use Rattle.laws.specs.First.{decides, tests}
 use Rattle.runs.specs.Claims.{valueOf}
 use Rattle.runs.proofs.Runs.{any-same}
+use Rattle.runs.proofs.Answer.{refused-many}
 use Rattle.runs.proofs.Claims.{first-level}
 
 abbrev Low : ℕ → ℕ → Type 0
@@ -89,7 +91,16 @@ payload = (omega arith, refl, refl, refl)
 
 -- ---- the others
 
--- what has no room is not accepted
+-- what is not accepted: with no bits, sixteen bits or an M of more than b bits; a level above M; more levels than the limit; and
+-- what has no room
+writable : (writingLevels 0 0 (0 ∷ []) 1 ≡ refused 5 (lent 1 ∷ [])) × (writingLevels 16 0 (0 ∷ []) 2 ≡ refused 5 (lent 2 ∷ []))
+    × (writingLevels 1 2 (0 ∷ []) 1 ≡ refused 5 (lent 1 ∷ [])) × (writingLevels 1 0 (1 ∷ []) 1 ≡ refused 13 (lent 1 ∷ []))
+unfolding listed anyOf first flatMap bitIn numberOf runsFrom runsOf digitsUpTo digitsOf runCodes levelCodes writeRunLength
+writable = (refl, refl, refl, refl)
+
+limited-written : (n : ℕ) → limit < n → left (stored.Refused Numbers) [] ≡ writeRunLength 1 0 (replicate n 0) []
+limited-written n l = refused-many 1 0 (replicate n 0) [] (refl, (refl, (refl, tt))) (omega (arith, length-replicate {A = ℕ} n 0))
+
 room : writingLevels 1 1 (0 ∷ []) 0 ≡ refused 10 (lent 0 ∷ [])
 unfolding listed anyOf first flatMap bitIn numberOf runsFrom runsOf runCodes levelCodes writeRunLength
 room = refl

@@ -1,6 +1,6 @@
 -- The digits of a number are those that come to it, each below the base and no zero at the top. Assumes nothing.
 use mathlib.Core.Path.{_≡_, refl, sym, ap, ap₂, _∙_}
-use mathlib.Core.Bool.{Bool, true, false}
+use mathlib.Core.Bool.{false}
 use mathlib.Core.List.{List, [], _∷_}
 use Prim.Native.Nat.{ℕ, zero, suc, _+_, _*_, _/_, _%_, _≤_, _<_}
 use native.Mathlib.Nat.{zero-lt-suc, mod-lt, mod-add-div, mod-eq-of-lt, div-eq-of-lt, mul-zero, mul-pos, add-mul-mod-self-left, add-mul-div-left}
