@@ -1,6 +1,8 @@
 // Document 01's cases that are run, and limits around them, through the code as it is compiled. Each row of standard input is
 // written out again with what it comes to behind it; what must be written stands in `stdout`. The top of `stdin` says how a
 // row goes.
+#![tactic(auto)]
+
 ghost use Rattle.std.specs.Prelude.{◌+◌, ◌<◌, ◌≤◌, length};
 
 use format::{Grouped, POINT_SIZE, Part, Template};

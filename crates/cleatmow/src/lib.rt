@@ -1,5 +1,7 @@
 // The C calls: each a few lines over the crates below. include/cleatmow.h declares them. A contract can name no underscore,
 // so the names of the header are shortened here.
+#![tactic(auto)]
+
 ghost use Rattle.std.specs.Prelude.{◌≡◌};
 ghost use Rattle.format.specs.Refusals.{refusal_number, fetched_number, stored_number, unpacked_number, unrolled_number, left};
 ghost use Rattle.format.specs.Template.{template_by};
@@ -140,7 +142,7 @@ pub extern "C" fn cleatmow_point(
     mark: &mut u8,
     number: &mut i64,
 ) -> u32
-    ensures { record { number = result; mark = mark.new; held = number.exit.now } ≡ called_point (point_section5 place section5.now payload.now) mark.old number.entry.now }
+    ensures { record { number = result; mark = mark.new; held = number.new } ≡ called_point (point_section5 place section5.now payload.now) mark.old number.old }
 {
     match point::point(section5, payload, place) {
         Picked::Refused(refusal) => refusal_number(refusal),

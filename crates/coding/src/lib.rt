@@ -1,5 +1,7 @@
 // Template numbers of a packing, after the Rust's `ComplexPacking::from` and `OptimalLengthParams`: how the numbers of the
 // groups in a lent list are coded.
+#![tactic(auto)]
+
 ghost use Rattle.std.specs.Prelude.{◌≡◌, List, map, ℕ, ◌*◌, ◌-◌, ◌/◌, ◌<◌, ◌≤◌, length};
 ghost use Rattle.format.specs.Lists.{greatest, least};
 ghost use Rattle.format.specs.Layout.{group_size};

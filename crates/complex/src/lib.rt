@@ -1,4 +1,6 @@
 // Points of the groups under 5.2 and 5.3, after the Rust's complex.rs: from the group fields and the values to lent octets.
+#![tactic(auto)]
+
 ghost use Rattle.std.specs.Prelude.{◌≡◌, ◌+◌, ◌*◌, ◌≤◌, length, replicate};
 ghost use mathlib.Core.List.{flat_map};
 ghost use Rattle.std.proofs.lemmas.List.Edits.{sets};
@@ -74,7 +76,7 @@ fn store_group_points(
 // The points of all groups, of which none is refused.
 pub fn store_points(template: Template, payload: &[u8], places: Places, points: &mut [u8])
     requires { Laid template places × Roomy template (codes_of places.references.0 template payload.now) (length points.old) }
-    ensures { points.new ≡ flat_map point_octets (points_up_to template (said_by places.references.0 template payload.now) template.groups) over (λ x. x.now) points.entry }
+    ensures { points.new ≡ flat_map point_octets (points_up_to template (said_by places.references.0 template payload.now) template.groups) over points.old }
 {
     let count = places::size(template.groups);
     let values = places::first_bit(places.values);

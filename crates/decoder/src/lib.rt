@@ -1,5 +1,7 @@
 // Unpacking under 5.2 and 5.3: what is left to decide once the parts are found, then the points, and under 5.3 their numbers
 // restored; and unpacking under the one of the two that Section 5 names.
+#![tactic(auto)]
+
 ghost use Rattle.std.specs.Prelude.{◌≡◌, List, ◌*◌, ◌≤◌, length};
 ghost use Rattle.format.specs.Refusals.{limit, left};
 ghost use Rattle.format.specs.Layout.{point_size};

@@ -1,5 +1,7 @@
 // Template 5.3, after the Rust's diff.rs: numbers are restored from their differences, in the lent octets where unpacking
 // left the packed ones. A number that may be below zero is kept with 2^62 − 1 added to it.
+#![tactic(auto)]
+
 ghost use Rattle.std.specs.Prelude.{◌≡◌, List, ◌+◌, ◌*◌, ◌<◌, ◌≤◌, ◌^◌, length};
 ghost use Rattle.std.proofs.lemmas.List.Edits.{sets};
 ghost use Rattle.format.specs.Refusals.{limit};
@@ -22,7 +24,7 @@ const LEAST: u64 = 3458764513820540927;
 const GREATEST: u64 = 5764607523034234879;
 
 // The first values (one of them is not used under order 1) and the minimum.
-#[derive(Drop)]
+#[derive(Clone, Copy)]
 pub struct Descriptors {
     pub first: u64,
     pub second: u64,
@@ -30,7 +32,7 @@ pub struct Descriptors {
 }
 
 // How many first values are still to come; the previous number, and the one before.
-#[derive(Drop)]
+#[derive(Clone, Copy)]
 pub struct Restoring {
     pub left: usize,
     pub previous: u64,
@@ -38,7 +40,7 @@ pub struct Restoring {
 }
 
 // Goes on, or a number is beyond 2^60 either way.
-#[derive(Drop)]
+#[derive(Clone, Copy)]
 pub enum Turn {
     On(Restoring),
     Beyond,

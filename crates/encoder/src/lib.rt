@@ -1,4 +1,6 @@
 // Packing, after the Rust's encoder: groups, template numbers and payload of a list.
+#![tactic(auto)]
+
 ghost use Rattle.std.specs.Prelude.{◌≡◌, ◌<◌, ◌≤◌, ◌^◌, length};
 ghost use Rattle.format.specs.Lists.{greatest, ◌over◌};
 ghost use Rattle.format.specs.Layout.{numbers_in, in_fours, group_size, group_octets};
@@ -35,7 +37,7 @@ fn store_groups(numbers: &[u8], lookahead: usize, added: usize, groups: &mut [u8
 // "Packing's eight template numbers, in the order of the cases, the group count and the payload length go to a lent 40 octets"
 fn store_summary(template: Template, octets: OctetPlace, summary: &mut [u8])
     requires { (summary_size ≤ length summary.old) × (octets.0 < 2 ^ 32) }
-    ensures { summary.new ≡ in_fours (summary_numbers template template.groups octets.0) over (λ x. x.now) summary.entry }
+    ensures { summary.new ≡ in_fours (summary_numbers template template.groups octets.0) over summary.old }
 {
     let widths = template.widths;
     let lengths = template.lengths;

@@ -1,9 +1,10 @@
 // The plain types that documents 01 and 02 speak of. What they mean stands in specs/, a file for each heading of document 01
 // and for what document 02 adds.
+#![tactic(auto)]
 
 // "What each number says": a case for each row of the table, and 14 and 15 of document 02. `refusal_number` of specs/Refusals.antt
 // has the numbers.
-#[derive(Drop)]
+#[derive(Clone, Copy)]
 pub enum Refusal {
     Splitting,
     Management,
@@ -40,21 +41,21 @@ pub const GROUP_SIZE: usize = NUMBERS_PER_GROUP * NUMBER_SIZE;
 pub const SUMMARY_SIZE: usize = 40;
 
 // "A place in bits and a place in octets are kept apart by kind." Only the crate `places` turns one into the other.
-#[derive(Drop)]
+#[derive(Clone, Copy)]
 pub struct BitPlace(pub usize);
 
-#[derive(Drop)]
+#[derive(Clone, Copy)]
 pub struct OctetPlace(pub usize);
 
 // What the bit reader answers.
-#[derive(Drop)]
+#[derive(Clone, Copy)]
 pub enum Fetched {
     Done,
     Refused(Refusal),
 }
 
 // What the bit writer answers, and whatever else writes octets: how many it spans.
-#[derive(Drop)]
+#[derive(Clone, Copy)]
 pub enum Stored {
     Span(OctetPlace),
     Refused(Refusal),
@@ -62,7 +63,7 @@ pub enum Stored {
 
 // The numbers of template 5.2, in Section 5's order: number width, splitting method, missing management, group count, and
 // how group widths and group lengths are coded.
-#[derive(Drop)]
+#[derive(Clone, Copy)]
 pub struct Template {
     pub width: u8,
     pub splitting: u8,
@@ -72,13 +73,13 @@ pub struct Template {
     pub lengths: Lengths,
 }
 
-#[derive(Drop)]
+#[derive(Clone, Copy)]
 pub struct Widths {
     pub reference: u8,
     pub bits: u8,
 }
 
-#[derive(Drop)]
+#[derive(Clone, Copy)]
 pub struct Lengths {
     pub reference: u32,
     pub increment: u8,
@@ -87,14 +88,14 @@ pub struct Lengths {
 }
 
 // What template 5.3 adds: the order of differencing, and the octets that each descriptor takes.
-#[derive(Drop)]
+#[derive(Clone, Copy)]
 pub struct Differencing {
     pub order: u8,
     pub octets: u8,
 }
 
 // Where the group references, the width codes, the length codes and the values begin, and where the values end.
-#[derive(Drop)]
+#[derive(Clone, Copy)]
 pub struct Places {
     pub references: OctetPlace,
     pub widths: OctetPlace,
@@ -104,7 +105,7 @@ pub struct Places {
 }
 
 // "The last four can be asked for as parts of the caller's payload"
-#[derive(Drop)]
+#[derive(Clone, Copy)]
 pub enum Part {
     References,
     Widths,
@@ -113,14 +114,14 @@ pub enum Part {
 }
 
 // Where the parts of a payload are, and how many points its groups come to.
-#[derive(Drop)]
+#[derive(Clone, Copy)]
 pub enum Located {
     At(Places, usize),
     Refused(Refusal),
 }
 
 // A point: a number, or one of the two kinds of missing point.
-#[derive(Drop)]
+#[derive(Clone, Copy)]
 pub enum DecodedValue {
     Normal(i64),
     Missing1,
@@ -128,35 +129,35 @@ pub enum DecodedValue {
 }
 
 // What unpacking answers: how many points it wrote.
-#[derive(Drop)]
+#[derive(Clone, Copy)]
 pub enum Unpacked {
     Points(u32),
     Refused(Refusal),
 }
 
 // Document 02, No. 3: one point, from its place in the list.
-#[derive(Drop)]
+#[derive(Clone, Copy)]
 pub enum Picked {
     Point(DecodedValue),
     Refused(Refusal),
 }
 
 // What run-length answers: how many levels it wrote.
-#[derive(Drop)]
+#[derive(Clone, Copy)]
 pub enum Unrolled {
     Levels(u32),
     Refused(Refusal),
 }
 
 // Document 02, No. 5: a run of one level, and its length.
-#[derive(Drop)]
+#[derive(Clone, Copy)]
 pub struct LevelRun {
     pub level: usize,
     pub length: usize,
 }
 
 // "a lent list of groups, four numbers each: start, length, least number, width"
-#[derive(Drop)]
+#[derive(Clone, Copy)]
 pub struct Group {
     pub start: u32,
     pub length: u32,
@@ -165,28 +166,28 @@ pub struct Group {
 }
 
 // What grouping answers: how many groups it wrote.
-#[derive(Drop)]
+#[derive(Clone, Copy)]
 pub enum Grouped {
     Groups(u32),
     Refused(Refusal),
 }
 
 // What packing answers: the template numbers, the group count among them, and the payload's length.
-#[derive(Drop)]
+#[derive(Clone, Copy)]
 pub enum Packed {
     Payload(Template, OctetPlace),
     Refused(Refusal),
 }
 
 // Document 02, No. 1: "one row a field with its first octet and size".
-#[derive(Drop)]
+#[derive(Clone, Copy)]
 pub struct Row {
     pub first: usize,
     pub size: usize,
 }
 
 // What refusal 14 looks at in Section 5, besides how much of it is lent: its length, its section number and its template.
-#[derive(Drop)]
+#[derive(Clone, Copy)]
 pub struct Head {
     pub length: u32,
     pub number: u32,
@@ -194,7 +195,7 @@ pub struct Head {
 }
 
 // What Section 5 names: the declared points, and the numbers of template 5.2 or of template 5.3.
-#[derive(Drop)]
+#[derive(Clone, Copy)]
 pub enum Named {
     Complex(u32, Template),
     Spatial(u32, Template, Differencing),

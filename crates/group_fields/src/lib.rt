@@ -1,5 +1,7 @@
 // Group fields under 5.2 and 5.3: where the parts are, what the groups come to, which of them holds a place of the
 // list, and the first refusal that applies, as far as 7 for the values; then the test of 9.
+#![tactic(auto)]
+
 ghost use Rattle.std.specs.Prelude.{◌≡◌, true, false, ◌++◌, ◌≤◌, length};
 ghost use Rattle.format.specs.Refusals.{refusal_number, count_refusals};
 ghost use Rattle.format.specs.Template.{descriptors_end};
@@ -15,7 +17,7 @@ use format::{Differencing, Located, OctetPlace, Part, Places, Refusal, Template}
 use groups::Walk;
 
 // Where a part begins and ends.
-#[derive(Drop)]
+#[derive(Clone, Copy)]
 pub struct Bounds {
     pub from: OctetPlace,
     pub to: OctetPlace,
@@ -23,7 +25,7 @@ pub struct Bounds {
 
 // Where the parts of a payload are, how many points its groups come to, and the last group that begins at a place of the
 // list or before it: it holds the place, if that is below the count.
-#[derive(Drop)]
+#[derive(Clone, Copy)]
 pub enum Surveyed {
     At(Places, usize, Walk),
     Refused(Refusal),

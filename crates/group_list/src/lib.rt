@@ -1,5 +1,7 @@
 // The list of groups, after `Vec<Group>` of the Rust's encoder: "a lent list of groups, four numbers each", thin over the
 // number slices that grouping leaves.
+#![tactic(auto)]
+
 ghost use Rattle.std.specs.Prelude.{◌≡◌, ◌+◌, ◌*◌, ◌≤◌, min, length, get_or};
 ghost use Rattle.format.specs.Lists.{listed, ◌over◌};
 ghost use Rattle.format.specs.Layout.{numbers_per_group};
@@ -59,7 +61,7 @@ fn fitting(count: usize, room: usize, have: usize) -> usize
 // The first `count` groups.
 fn fill<'g, 'n>(list: &'g mut [Group], numbers: &'n [u32], count: usize)
     requires { (count ≤ length list.old) × (count * numbers_per_group ≤ length numbers.now) }
-    ensures { list.new ≡ listed count (group_among numbers.now) over (λ x. x.now) list.entry }
+    ensures { list.new ≡ listed count (group_among numbers.now) over list.old }
 {
     let mut k = 0;
     while k < count {

@@ -1,4 +1,6 @@
 // Grouping, after `Groups` of the Rust's encoder: the groups of a list by document 01's rule.
+#![tactic(auto)]
+
 ghost use Rattle.std.specs.Prelude.{◌≡◌, ◌&&◌, ◌+◌, ◌*◌, ◌-◌, ◌<◌, ◌≤◌, ◌^◌, min, max, ltb, leb, length, take, drop};
 ghost use Rattle.std.proofs.Math.Seq.{slice};
 ghost use Rattle.std.proofs.lemmas.List.Edits.{sets};
@@ -82,7 +84,7 @@ fn is_dear(end: usize, level: usize, reach: usize, keep: usize, extend: usize) -
 }
 
 // What looking ahead comes to: whether the group ends, and how far the next numbers are known to be equal.
-#[derive(Drop)]
+#[derive(Clone, Copy)]
 pub struct Look {
     pub ends: bool,
     pub level: usize,

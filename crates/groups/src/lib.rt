@@ -1,4 +1,6 @@
 // A group under 5.2 and 5.3, its values and its points, and the walk over all groups.
+#![tactic(auto)]
+
 ghost use Rattle.std.specs.Prelude.{◌≡◌, true, cond, ◌+◌, ◌*◌, ◌/◌, ◌<◌, ◌≤◌, ◌^◌, leb, pos, length};
 ghost use Rattle.format.specs.Bits.{number_at};
 ghost use Rattle.format.specs.Refusals.{limit};
@@ -11,7 +13,7 @@ ghost use Rattle.groups.specs.Walk.{Further};
 use format::{BitPlace, DecodedValue, OctetPlace, Places, Template};
 
 // A group: its reference, its width and its length.
-#[derive(Drop)]
+#[derive(Clone, Copy)]
 pub struct PackedGroup {
     pub reference: u32,
     pub width: usize,
@@ -19,7 +21,7 @@ pub struct PackedGroup {
 }
 
 // A group that holds a place of the list: its reference, its width, the place of its first point, and where its values begin.
-#[derive(Drop)]
+#[derive(Clone, Copy)]
 pub struct HolderGroup {
     pub reference: u32,
     pub width: usize,
@@ -28,7 +30,7 @@ pub struct HolderGroup {
 }
 
 // The group that a walk stands at, and the points and the bits of the values before it.
-#[derive(Drop)]
+#[derive(Clone, Copy)]
 pub struct Walk {
     pub group: usize,
     pub points: usize,

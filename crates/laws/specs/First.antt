@@ -127,6 +127,7 @@ pub ruleset among = (here, later)
 
 -- a row of a list that is clear has a false test
 pub clear-row : {t : Bool} (rows : List Row) → Clear rows → Among t rows → t ≡ false
+clear-row {t = t} [] h among = elim among [ ]
 clear-row (t gives r ∷ rows) h here = h.0
 clear-row (s gives r ∷ rows) h (later a) = clear-row rows h.1 a
 

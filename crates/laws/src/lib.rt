@@ -1,1 +1,2 @@
 // What follows from the definitions of `format`, by subject, in specs/. No function.
+#![tactic(auto)]

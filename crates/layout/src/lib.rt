@@ -1,5 +1,7 @@
 // Levels, numbers, points and groups as they lie in lent octets, all big-endian, thing after thing from the first octet on;
 // and the numbers of a template.
+#![tactic(auto)]
+
 ghost use Rattle.std.specs.Prelude.{◌≡◌, ◌+◌, ◌*◌, ◌<◌, ◌≤◌, length, get_or};
 ghost use Rattle.std.proofs.lemmas.List.Edits.{sets};
 ghost use Rattle.format.specs.Bits.{number_at};
@@ -58,7 +60,7 @@ pub fn number_in(octets: &[u8], k: usize) -> u32
 // Numbers of four octets each.
 pub fn store_numbers(numbers: &[u32], octets: &mut [u8])
     requires { length numbers.now * number_size ≤ length octets.old }
-    ensures { octets.new ≡ in_fours numbers.now over (λ x. x.now) octets.entry }
+    ensures { octets.new ≡ in_fours numbers.now over octets.old }
 {
     let mut k = 0usize;
     while k < numbers.len() {

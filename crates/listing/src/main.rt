@@ -1,5 +1,7 @@
 // Lists the groups of document 01's cases of packing: grouping leaves them as plain numbers, the list of groups is filled
 // from these, and each group is read back from the list. What each line must be stands in `stdout`.
+#![tactic(auto)]
+
 use format::{Group, Grouped};
 use libc::STDOUT_FILENO;
 

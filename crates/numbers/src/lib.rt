@@ -1,4 +1,6 @@
 // What packing reads: the numbers of a list, their windows, and the numbers of a group.
+#![tactic(auto)]
+
 ghost use Rattle.std.specs.Prelude.{◌≡◌, ◌∷◌, [], ◌-◌, ◌<◌, ◌≤◌, min, max, length, get_or};
 ghost use Rattle.format.specs.Lists.{greatest};
 ghost use Rattle.format.specs.Layout.{numbers_in};
@@ -24,7 +26,7 @@ pub fn number_at(numbers: &[u8], k: usize) -> u32
 }
 
 // The least and the greatest of some numbers. Every width of packing comes from one.
-#[derive(Drop)]
+#[derive(Clone, Copy)]
 pub struct Window {
     pub least: u32,
     pub greatest: u32,
@@ -83,7 +85,7 @@ pub fn greatest_of(numbers: &[u8]) -> u32
 }
 
 // The fields of a payload that code a number of each group: its least number, its width, its length.
-#[derive(Drop)]
+#[derive(Clone, Copy)]
 pub enum Field {
     References,
     Widths,

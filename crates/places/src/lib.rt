@@ -1,4 +1,6 @@
 // Places in bits and places in octets, turned into each other by the rounding rules, the parts of a payload, and powers of two.
+#![tactic(auto)]
+
 ghost use Rattle.std.specs.Prelude.{◌≡◌, ◌*◌, ◌<◌, ◌≤◌, ◌^◌, ◌/◌, ◌%◌};
 ghost use Rattle.format.specs.Bits.{rounded_up, span_of};
 ghost use Rattle.format.specs.Unpacking.{places_of};

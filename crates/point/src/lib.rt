@@ -1,5 +1,7 @@
 // Document 02, No. 3: one point of a map under 5.2, from its place in the list. The group that holds the place is found, and
 // of it one reference and one value are read. Nothing is lent.
+#![tactic(auto)]
+
 ghost use Rattle.std.specs.Prelude.{◌≡◌, ◌≤◌};
 ghost use Rattle.format.specs.Point.{point52, point_section5};
 ghost use Rattle.point.specs.Holding.{held52, Readable, held_point};
@@ -9,7 +11,7 @@ use group_fields::Surveyed;
 use groups::HolderGroup;
 
 // The group that holds a place of the list, or why there is none.
-#[derive(Drop)]
+#[derive(Clone, Copy)]
 pub enum Held {
     Group(HolderGroup),
     Refused(Refusal),

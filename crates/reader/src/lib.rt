@@ -1,6 +1,8 @@
 // The reader that holds the octets and its place in them, thin over the cursor by value. The borrow checker covers no
 // function over such a struct: each of those is proved by hand, and leaves its work to one that takes the octets and the
 // cursor as they are.
+#![tactic(auto)]
+
 ghost use Rattle.std.specs.Prelude.{◌≡◌, min};
 ghost use Rattle.format.specs.Bits.{span_of};
 ghost use Rattle.stream.specs.Cursor.{Inside};
@@ -9,14 +11,14 @@ ghost use Rattle.reader.specs.Reading.{reader_on, outside, taken_at, behind_numb
 use format::{BitPlace, OctetPlace, Refusal};
 use stream::{Cursor, Step};
 
-#[derive(Drop)]
+#[derive(Clone, Copy)]
 pub struct Reader<'a> {
     pub octets: &'a [u8],
     pub cursor: Cursor,
 }
 
 // The next number, the end where none is left, or why it cannot be read.
-#[derive(Drop)]
+#[derive(Clone, Copy)]
 pub enum Taken {
     Number(u32),
     End,

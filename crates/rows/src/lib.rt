@@ -1,5 +1,7 @@
 // A case as a row of text: a word; numbers in decimal, each behind a space; and behind a bar octets, in words of two digits of
 // base 16 an octet. A word with `*` and a number behind it goes on, again and again, until there are so many octets in all.
+#![tactic(auto)]
+
 ghost use Rattle.std.specs.Prelude.{◌≤◌, length};
 
 // What a digit says, or 16 where a character is none.
@@ -58,7 +60,7 @@ const SECOND_HALF: u8 = 2;
 const COUNT: u8 = 3;
 
 // The octet that is next, the one that the word began with, and how far it goes on.
-#[derive(Drop)]
+#[derive(Clone, Copy)]
 pub struct Reading {
     pub part: u8,
     pub at: usize,

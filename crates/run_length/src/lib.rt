@@ -1,4 +1,6 @@
 // Run-length, template 7.200: codes are levels, or repeat the last level in digits of a base.
+#![tactic(auto)]
+
 ghost use Rattle.std.specs.Prelude.{◌≡◌, true, false, cond, ◌||◌, ◌&&◌, ◌+◌, ◌-◌, ◌*◌, ◌/◌, ◌<◌, ◌≤◌, ◌^◌, min, ltb, length, replicate};
 ghost use mathlib.Core.List.{flat_map};
 ghost use Rattle.std.proofs.lemmas.List.Edits.{sets};
@@ -34,7 +36,7 @@ fn product(x: usize, weight: usize) -> usize
 }
 
 // Where the next code stands, the last level, and the weight of the next repeat code.
-#[derive(Drop)]
+#[derive(Clone, Copy)]
 pub struct Run {
     pub octet: OctetPlace,
     pub bit: usize,
@@ -43,7 +45,7 @@ pub struct Run {
 }
 
 // How many more points of the next run's level.
-#[derive(Drop)]
+#[derive(Clone, Copy)]
 pub struct Turn {
     pub points: usize,
     pub next: Run,

@@ -1,4 +1,6 @@
 // Document 02, No. 5: levels written under template 7.200, run by run.
+#![tactic(auto)]
+
 ghost use Rattle.std.specs.Prelude.{◌≡◌, true, false, ◌∷◌, [], ◌+◌, ◌*◌, ◌<◌, ◌≤◌, ◌^◌, ltb, length, get_or, replicate, drop};
 ghost use Rattle.format.specs.Lists.{any_of};
 ghost use Rattle.format.specs.Bits.{string_of};
@@ -14,7 +16,7 @@ use format::{BitPlace, LevelRun, OctetPlace, Refusal, Stored};
 use writer::Pen;
 
 // How levels are coded: in so many bits, up to a greatest level, and with repeat codes for the digits of a base.
-#[derive(Drop)]
+#[derive(Clone, Copy)]
 pub struct LevelCoding {
     pub bits: usize,
     pub greatest: usize,

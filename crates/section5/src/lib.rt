@@ -1,4 +1,6 @@
 // Section 5 of templates 5.2 and 5.3, read and written by one table; and what it names for unpacking.
+#![tactic(auto)]
+
 ghost use Rattle.std.specs.Prelude.{◌≡◌, ◌∷◌, [], ◌<◌, ◌≤◌, length, get_or};
 ghost use Rattle.format.specs.Lists.{any_of, whole_ones};
 ghost use Rattle.format.specs.Layout.{number_size, numbers_in};

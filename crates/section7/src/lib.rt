@@ -1,4 +1,6 @@
 // The payload of a packing, after the Rust's `write_section7`: the codes of the groups in a lent list, and their values.
+#![tactic(auto)]
+
 ghost use Rattle.std.specs.Prelude.{◌≡◌, ◌∷◌, [], ◌++◌, ◌+◌, ◌*◌, ◌-◌, ◌<◌, ◌≤◌, length};
 ghost use Rattle.std.proofs.lemmas.List.Edits.{sets};
 ghost use Rattle.format.specs.Lists.{total, ◌over◌};
@@ -17,7 +19,7 @@ use numbers::Field;
 use writer::Pen;
 
 // How a field codes a number of each group: its difference from the reference, in steps of the increment, in so many bits.
-#[derive(Drop)]
+#[derive(Clone, Copy)]
 pub struct FieldCoding {
     pub field: Field,
     pub reference: u32,
@@ -219,7 +221,7 @@ fn write_parts(
 )
     requires sound { Sound (numbers_in numbers.now) groups.now count × (template ≡ template_of (numbers_in numbers.now) (own_groups (numbers_in numbers.now) (groups_in groups.now count))) }
     requires places_value { (places ≡ places_of 0 template (total count (λ k. group_bits (group_in groups.now k)))) × (places.end.0 ≤ length payload.old) }
-    ensures { payload.new ≡ payload_of template (own_groups (numbers_in numbers.now) (groups_in groups.now count)) over (λ x. x.now) payload.entry }
+    ensures { payload.new ≡ payload_of template (own_groups (numbers_in numbers.now) (groups_in groups.now count)) over payload.old }
 {
     let references = places.references;
     let widths = places.widths;

@@ -1,4 +1,6 @@
 // What the programs that run document 01's cases write: numbers, each after a space, and what lies in lent octets.
+#![tactic(auto)]
+
 ghost use Rattle.std.specs.Prelude.{◌<◌, ◌≤◌};
 
 use libc::STDOUT_FILENO;

@@ -1,4 +1,6 @@
 // Reading bit fields: one rule for reading a number, the cursor by value beside the octets, and the bit reader.
+#![tactic(auto)]
+
 ghost use Rattle.std.specs.Prelude.{◌≡◌, ◌+◌, ◌-◌, ◌*◌, ◌/◌, ◌%◌, ◌<◌, ◌≤◌, ◌^◌, length, get_or};
 ghost use Rattle.format.specs.Lists.{◌over◌};
 ghost use Rattle.format.specs.Refusals.{left};
@@ -162,21 +164,21 @@ pub fn read_two(octets: &[u8], place: OctetPlace) -> u32
 }
 
 // A place in octets that lie beside it, the width of the numbers from there on, and how many of them are left.
-#[derive(Drop)]
+#[derive(Clone, Copy)]
 pub struct Cursor {
     pub place: BitPlace,
     pub width: usize,
     pub left: u32,
 }
 
-#[derive(Drop)]
+#[derive(Clone, Copy)]
 pub enum Made {
     Cursor(Cursor),
     Refused(Refusal),
 }
 
 // The next number and the cursor behind it, or the end.
-#[derive(Drop)]
+#[derive(Clone, Copy)]
 pub enum Step {
     Number(u32, Cursor),
     End,
@@ -220,7 +222,7 @@ impl Cursor {
 // The numbers that a cursor has left, at the front of the lent ones.
 fn fill(octets: &[u8], cursor: Cursor, numbers: &mut [u32])
     requires { (cursor.place.0 ≤ 7) × (cursor.width ≤ 32) × (cursor.left ≤ length numbers.old) }
-    ensures { numbers.new ≡ field_of octets.now cursor.place.0 cursor.width cursor.left over (λ x. x.now) numbers.entry }
+    ensures { numbers.new ≡ field_of octets.now cursor.place.0 cursor.width cursor.left over numbers.old }
 {
     let mut here = cursor;
     let mut k = 0usize;

@@ -1,6 +1,8 @@
 // Replays frozen answers of the Rust crate: rows on standard input, of 64 octets, and 448 where the row is of packing. The
 // top of oracle/src/bin/freeze.rs says how a row goes, and how the file was made. Writes how many rows there are, and how
 // many are not answered as frozen.
+#![tactic(auto)]
+
 ghost use Rattle.std.specs.Prelude.{◌≡◌, ◌+◌, ◌*◌, ◌<◌, ◌≤◌};
 
 use format::{BitPlace, Fetched, Stored};

@@ -1,4 +1,6 @@
 // One number, read by the rule of `stream` step by step. docs/READING.md shows what this writes, which `stdout` has.
+#![tactic(auto)]
+
 ghost use Rattle.std.specs.Prelude.{◌<◌, ◌≤◌};
 
 use format::BitPlace;

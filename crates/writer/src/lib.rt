@@ -1,4 +1,6 @@
 // Writing bit fields: the pen by value, which the packer uses too, and the bit writer.
+#![tactic(auto)]
+
 ghost use Rattle.std.specs.Prelude.{◌≡◌, false, List, [], ◌∷◌, ◌*◌, ◌<◌, ◌≤◌, ◌^◌, ◌/◌, ◌%◌, leb, length, get_or};
 ghost use Rattle.format.specs.Lists.{any_of};
 ghost use Rattle.format.specs.Refusals.{left};
@@ -8,7 +10,7 @@ ghost use Rattle.writer.specs.Pen.{Ready, Moved, Finished, Job};
 use format::{BitPlace, OctetPlace, Refusal, Stored};
 
 // Octets that are being written: those before `place` are out, and the `pending` bits after them make `number`.
-#[derive(Drop)]
+#[derive(Clone, Copy)]
 pub struct Pen {
     pub place: OctetPlace,
     pub number: u64,

@@ -5,16 +5,11 @@ use native.Mathlib.Omega.{arith}
 use Rattle.format.specs.Bits.{span_of}
 use Rattle.laws.specs.Bits.{product}
 use Rattle.laws.specs.Spans.{span-aligned}
-use borrow.Author.Rules.{rules}
-use Rattle.places.proofs.field.Statement.{statement}
-use Rattle.places.proofs.field.Tie as tie
+use Rattle.places.proofs.field.Goals as goal
 
-returns : tie.Need-returns
+pub returns : goal.returns
 returns c =
-    let a = c.before.before.before.args in
+    let a = c.args in
     let e : c.span.result.0 ≡ span_of 0 a.width a.groups = cc in
     let few : a.groups * a.width ≤ 2 ^ 32 * 32 = product a.groups a.width (2 ^ 32) 32 (omega arith) (omega arith) in
     (e, omega (arith, e, few, span-aligned a.width a.groups))
-
-pub field-spec : {M : Type 1} → statement M
-field-spec = tie.close (tie.spec (λ c κs. search rules) (λ c κs. search rules) (λ c κs. search rules) returns)
