@@ -1,0 +1,11 @@
+-- `stream::fill` meets its contract. Assumes nothing.
+use Rattle.stream.proofs.Cursors.{step-number, step_less, step_end}
+use Rattle.stream.proofs.Filling.{Filling, filling-start, filling-more, filling-room, filling-end}
+use native.Mathlib.Omega.{arith}
+use Rattle.stream.proofs.fill.Given as goal
+
+abbrev pub invariant-loop-number : goal.invariant-loop-number
+invariant-loop-number l = Filling l.octets l.initial.here l.initial.numbers l.numbers l.here l.k
+
+abbrev pub decreases-loop-number : goal.decreases-loop-number
+decreases-loop-number l = l.here.left
