@@ -1,0 +1,11 @@
+-- `layout::store` meets its contract: after i turns i octets are stored. Assumes nothing.
+use Prim.Native.Nat.{◌-◌}
+use Rattle.layout.proofs.Stores.{Storing, storing-start, storing-more, storing-end}
+use native.Mathlib.Omega.{arith}
+use Rattle.layout.proofs.store.Given as goal
+
+abbrev pub invariant-loop-i : goal.invariant-loop-i
+invariant-loop-i l = Storing l.initial.octets l.at l.x l.n l.octets l.i
+
+abbrev pub decreases-loop-i : goal.decreases-loop-i
+decreases-loop-i l = l.n - l.i

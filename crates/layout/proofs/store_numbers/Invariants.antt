@@ -1,0 +1,12 @@
+-- `layout::store_numbers` meets its contract. Assumes nothing.
+use mathlib.Core.Path.{refl}
+use Prim.Native.Nat.{◌-◌}
+use lib.ListN.{length}
+use Rattle.layout.proofs.Numbers.{NumbersStored, stored-none, stored_more, stored-all}
+use Rattle.layout.proofs.store_numbers.Given as goal
+
+abbrev pub invariant-loop-k : goal.invariant-loop-k
+invariant-loop-k l = NumbersStored l.numbers l.initial.octets l.octets l.k
+
+abbrev pub decreases-loop-k : goal.decreases-loop-k
+decreases-loop-k l = length l.numbers - l.k
