@@ -1,11 +1,8 @@
-# Needs the Rattle toolchain (rt), and cargo for the host and the oracle, on the PATH. RT_JOBS is how many proofs run at a
-# time: rt starts them in batches and waits for the slowest of each, so twice as many as there are processors keep all of
-# them at work. Cargo uses no registry.
-export RT_JOBS := $(shell expr 2 \* $$(nproc))
+# Needs the Rattle toolchain (rt), and cargo for the host and the oracle, on the PATH. Cargo uses no registry.
 CARGO := cargo --offline --quiet
 
 .NOTPARALLEL:
-.PHONY: desk test linked host compare hostile oracle freeze bench check fmt clean
+.PHONY: desk test linked archive host compare hostile oracle freeze bench check fmt clean
 
 # The main job: the archive and the host, and with them a day at the desk on the maps of samples/.
 desk:
@@ -13,16 +10,19 @@ desk:
 		echo "The first time, the crates under the C calls are proved, which takes minutes." >&2
 	@cd host && $(CARGO) run --release --bin desk -- day --samples ../samples
 
-# All checks: the layout of the files; from nothing, every crate, every must-fail edit and every program; then, over what has
-# just been proved, what links the archive. The last line of rt ci, 'N passed, 0 failed', is printed last, if all passed.
+# All checks: rt ci, which has the layout of the files, every crate, every must-fail edit and every program; then, over what is
+# proved, what links the archive. The last line of rt ci, 'N passed, 0 failed', is printed last, if all passed.
 test:
-	@rt fmt --check
 	@sh verdict.sh $(MAKE) --no-print-directory linked
 
 # The host's tests and the comparison, with one archive for both.
-linked:
-	@rt staticlib cleatmow
+linked: archive
 	@CLEATMOW_ARCHIVE_DIR=../target/staticlib $(MAKE) --no-print-directory host compare
+
+# The archive of the C calls, under the name that hosts link. rt names it after the crate.
+archive:
+	@cd crates/cleatmow_c && rt lib
+	@mkdir -p target/staticlib && cp crates/cleatmow_c/out/libcleatmow_c.a target/staticlib/libcleatmow.a
 
 # The Rust host: it makes the archive of the C calls, links it and tests it.
 host:
@@ -69,12 +69,12 @@ bench:
 
 # Prove what has changed, and what depends on it.
 check:
-	@rt check
+	@rt all check
 
 # Bring the files under crates/ into the toolchain's layout.
 fmt:
-	@rt fmt
+	@for crate in crates/*/; do (cd "$$crate" && rt fmt) || exit; done
 
 # Remove what was made.
 clean:
-	@rm -rf target host/target oracle/target
+	@rm -rf target host/target oracle/target crates/*/out

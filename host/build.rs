@@ -1,4 +1,4 @@
-//! Makes libcleatmow.a by `rt staticlib cleatmow` in the repository's top folder, and links it.
+//! Makes libcleatmow.a by `rt lib` in the folder of the crate `cleatmow_c`, and links it.
 //! CLEATMOW_ARCHIVE_DIR names a folder that has the archive already, seen from host/; then nothing is made.
 //!
 //! The archive is x86-64 code. On a Linux that is no x86-64, one with the same calls is linked instead, which carries
@@ -30,7 +30,7 @@ fn link() -> Result<(), String> {
     };
     let out = folder("OUT_DIR")?;
     if target("ARCH") == "x86_64" {
-        // The toolchain removes its target/ whenever it proves from nothing, so the host links a copy of its own.
+        // The toolchain sets its out/ aside whenever it proves from nothing, so the host links a copy of its own.
         fs::copy(&archive, out.join(ARCHIVE))
             .map_err(|error| format!("{} cannot be copied: {error}", archive.display()))?;
     } else {
@@ -41,17 +41,30 @@ fn link() -> Result<(), String> {
     Ok(())
 }
 
-/// Proves the crate `cleatmow`, and answers where its archive is.
+/// Proves the crate `cleatmow_c` and those below it, and answers where its archive is: rt names it after the crate.
 fn made() -> Result<PathBuf, String> {
     for_linux()?;
     let host = folder("CARGO_MANIFEST_DIR")?;
     let top = host.parent().ok_or("host/ has no folder above it")?;
-    for source in ["crates", "crates.txt"] {
-        println!("cargo:rerun-if-changed={}", top.join(source).display());
+    rerun_on_sources(top).map_err(|error| format!("{} cannot be read: {error}", top.join("crates").display()))?;
+    let exports = top.join("crates/cleatmow_c");
+    let ran = Command::new("rt").arg("lib").current_dir(&exports).output().map_err(not_run)?;
+    went_well(&ran, &format!("`rt lib` failed in {}", exports.display()))?;
+    Ok(exports.join("out/libcleatmow_c.a"))
+}
+
+/// What rt reads of each crate. What it writes there, in out/, would have cargo run this script at every build.
+fn rerun_on_sources(top: &Path) -> io::Result<()> {
+    println!("cargo:rerun-if-changed={}", top.join("crates.txt").display());
+    for entry in fs::read_dir(top.join("crates"))? {
+        let crate_folder = entry?.path();
+        for sources in ["src", "specs", "proofs"].map(|part| crate_folder.join(part)) {
+            if sources.is_dir() {
+                println!("cargo:rerun-if-changed={}", sources.display());
+            }
+        }
     }
-    let ran = Command::new("rt").args(["staticlib", "cleatmow"]).current_dir(top).output().map_err(not_run)?;
-    went_well(&ran, &format!("`rt staticlib cleatmow` failed in {}", top.display()))?;
-    Ok(top.join("target/staticlib").join(ARCHIVE))
+    Ok(())
 }
 
 fn for_linux() -> Result<(), String> {
@@ -108,17 +121,20 @@ fn emulate(archive: &Path, out: &Path) -> Result<(), String> {
     run("makes the archive", Command::new("ar").arg("crs").args([&carrier, &object]))
 }
 
-/// A tool that the Rattle toolchain has for machines that are no x86-64, or else the one on the PATH.
+/// A tool that the Rattle toolchain has and that runs on this machine, or else the one on the PATH.
 fn tool(name: &str) -> PathBuf {
-    let found = toolchain().map(|folder| folder.join(name)).filter(|tool| tool.is_file());
+    let found = toolchain().map(|folder| folder.join(name)).filter(|tool| {
+        let ran = Command::new(tool).arg("--version").output();
+        ran.is_ok_and(|ran| ran.status.success())
+    });
     found.unwrap_or_else(|| name.into())
 }
 
-/// Where those tools are: the toolchain says where its guide is, in a folder beside them.
+/// Where those tools are: the toolchain says where its guide is, in the folder above them.
 fn toolchain() -> Option<PathBuf> {
     let said = Command::new("rt").arg("doc").output().ok()?;
     let guide = PathBuf::from(String::from_utf8(said.stdout).ok()?.trim_end());
-    Some(guide.parent()?.parent()?.join("on").join(env::consts::ARCH).join("toolchain/bin"))
+    Some(guide.parent()?.join("toolchain/bin"))
 }
 
 /// Runs a tool that does this for the carried calls.

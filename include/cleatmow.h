@@ -1,5 +1,5 @@
 /*
- * The C calls of Cleatmow. A host links libcleatmow.a, which `rt staticlib cleatmow` writes to target/staticlib/.
+ * The C calls of Cleatmow. A host links libcleatmow.a, which `make archive` writes to target/staticlib/.
  * What a call answers is decided by document 01, "Scope and rules", and document 02, "Requests", whose words are used
  * here.
  *

@@ -125,9 +125,10 @@
 //! Section 7, and [`grib2`] finds both sections in a GRIB2 file. `desk`, the command of this crate, works on such files
 //! and sections; `desk --help` says how.
 //!
-//! The build of this crate runs `rt staticlib cleatmow` in the folder above and links the archive; `rt`, the Rattle
-//! toolchain, must be on the PATH. `CLEATMOW_ARCHIVE_DIR` names a folder that has `libcleatmow.a` already, and nothing
-//! is made then. A host in another language links `target/staticlib/libcleatmow.a` and includes `include/cleatmow.h`.
+//! The build of this crate runs `rt lib` in `crates/cleatmow_c` of the folder above and links the archive; `rt`, the
+//! Rattle toolchain, must be on the PATH. `CLEATMOW_ARCHIVE_DIR` names a folder that has `libcleatmow.a` already, and
+//! nothing is made then. A host in another language links `target/staticlib/libcleatmow.a`, which `make archive` makes,
+//! and includes `include/cleatmow.h`.
 
 #![deny(missing_docs, unsafe_code)]
 

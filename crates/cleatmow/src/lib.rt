@@ -51,8 +51,7 @@ fn unpacked_number(unpacked: Unpacked) -> u32
 }
 
 // Template 5.2: the points of a payload, nine octets each.
-#[unsafe(no_mangle)]
-pub extern "C" fn cleatmow_unpack_complex(
+pub fn cleatmow_unpack_complex(
     declared: u32,
     bits: u8,
     splitting: u8,
@@ -76,8 +75,7 @@ pub extern "C" fn cleatmow_unpack_complex(
 }
 
 // Template 5.3: the same numbers, then the order and the octets of a descriptor.
-#[unsafe(no_mangle)]
-pub extern "C" fn cleatmow_unpack_spatial(
+pub fn cleatmow_unpack_spatial(
     declared: u32,
     bits: u8,
     splitting: u8,
@@ -104,8 +102,7 @@ pub extern "C" fn cleatmow_unpack_spatial(
 }
 
 // Section 5's fields, four octets each, one for each row of its table.
-#[unsafe(no_mangle)]
-pub extern "C" fn cleatmow_read_section5(section5: &[u8], fields: &mut [u8]) -> u32
+pub fn cleatmow_read_section5(section5: &[u8], fields: &mut [u8]) -> u32
     ensures { left result fields.new ≡ called fetched_number (read_section5 section5.now fields.old) }
 {
     match section5::read_section5(section5, fields) {
@@ -115,8 +112,7 @@ pub extern "C" fn cleatmow_read_section5(section5: &[u8], fields: &mut [u8]) -> 
 }
 
 // Section 5 of such fields.
-#[unsafe(no_mangle)]
-pub extern "C" fn cleatmow_write_section5(fields: &[u8], section5: &mut [u8]) -> u32
+pub fn cleatmow_write_section5(fields: &[u8], section5: &mut [u8]) -> u32
     ensures { left result section5.new ≡ called stored_number (write_section5 (numbers_in fields.now) section5.old) }
 {
     match section5::write_section5(fields, section5) {
@@ -126,16 +122,14 @@ pub extern "C" fn cleatmow_write_section5(fields: &[u8], section5: &mut [u8]) ->
 }
 
 // The points of a payload under the template that Section 5 names, nine octets each.
-#[unsafe(no_mangle)]
-pub extern "C" fn cleatmow_unpack(section5: &[u8], payload: &[u8], points: &mut [u8]) -> u32
+pub fn cleatmow_unpack(section5: &[u8], payload: &[u8], points: &mut [u8]) -> u32
     ensures { left result points.new ≡ called unpacked_number (unpack_section5 section5.now payload.now points.old) }
 {
     unpacked_number(decoder::unpack(section5, payload, points))
 }
 
 // One point of a payload under template 5.2, from its place in the list: its mark, and its number.
-#[unsafe(no_mangle)]
-pub extern "C" fn cleatmow_point(
+pub fn cleatmow_point(
     place: u32,
     section5: &[u8],
     payload: &[u8],
@@ -155,8 +149,7 @@ pub extern "C" fn cleatmow_point(
 }
 
 // Template 7.200: the levels of a payload, two octets each.
-#[unsafe(no_mangle)]
-pub extern "C" fn cleatmow_run_length(
+pub fn cleatmow_run_length(
     bits: u8,
     greatest: u16,
     declared: u32,
@@ -172,8 +165,7 @@ pub extern "C" fn cleatmow_run_length(
 }
 
 // Levels, two octets each, as a payload of template 7.200, and how many octets that has.
-#[unsafe(no_mangle)]
-pub extern "C" fn cleatmow_write_run_length(
+pub fn cleatmow_write_run_length(
     bits: u8,
     greatest: u16,
     levels: &[u8],
@@ -192,8 +184,7 @@ pub extern "C" fn cleatmow_write_run_length(
 }
 
 // Packing: the groups of a list, sixteen octets each, the payload, and the summary of 40 octets.
-#[unsafe(no_mangle)]
-pub extern "C" fn cleatmow_pack(
+pub fn cleatmow_pack(
     lookahead: u32,
     numbers: &[u8],
     groups: &mut [u8],
