@@ -1,0 +1,21 @@
+-- `writer::any_too_large` meets its contract: whether one is too large is whether one of those left is. Assumes nothing.
+use mathlib.Core.Path.{◌≡◌, refl}
+use Prim.Native.Nat.{◌≤◌, ◌-◌, ◌^◌}
+use lib.Dec.{leb}
+use lib.ListN.{length, drop}
+use Rattle.format.specs.Lists.{any_of}
+use Rattle.writer.proofs.Jobs.{large-here, large-later, large-none}
+use native.Mathlib.Omega.{arith}
+use Rattle.writer.proofs.any_too_large.Goals as goal
+
+pub loop-k-init : goal.loop-k-init
+loop-k-init c = (omega arith, refl)
+
+pub returns-then-limit-number_at : goal.returns-then-limit-number_at
+returns-then-limit-number_at c = search large-here
+
+pub loop-k-preserved : goal.loop-k-preserved
+loop-k-preserved c = (omega arith, search large-later)
+
+pub returns : goal.returns
+returns c = search large-none

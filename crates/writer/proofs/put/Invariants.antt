@@ -1,0 +1,12 @@
+-- `writer::put` meets its contract: each turn sends an octet out. Assumes nothing.
+use Prim.Native.Nat.{◌≤◌}
+use lib.Pow.{pow_mono}
+use Rattle.writer.proofs.Pens.{Emitting, ready-small, emitting-start, emitting-more, emitting-end}
+use native.Mathlib.Omega.{arith}
+use Rattle.writer.proofs.put.Given as goal
+
+abbrev pub invariant-loop-pending : goal.invariant-loop-pending
+invariant-loop-pending l = Emitting l.initial.octets l.initial.at l.initial.number l.initial.pending l.octets l.at l.number l.pending
+
+abbrev pub decreases-loop-pending : goal.decreases-loop-pending
+decreases-loop-pending l = l.pending
