@@ -1,0 +1,11 @@
+-- `group_fields::groups_surveyed` meets its contract. Assumes nothing.
+use Prim.Native.Nat.{◌-◌}
+use Rattle.format.specs.Unpacking.{codes_of}
+use Rattle.group_fields.proofs.Walked.{Walked, walked_start, walked-wide, walked-long, walked_more, walked-short, walked_at}
+use Rattle.group_fields.proofs.groups_surveyed.Given as goal
+
+abbrev pub invariant-loop-walk : goal.invariant-loop-walk
+invariant-loop-walk l = Walked l.template (codes_of l.places.references.0 l.template l.payload) l.place l.holder l.walk
+
+abbrev pub decreases-loop-walk : goal.decreases-loop-walk
+decreases-loop-walk l = l.count - l.walk.group

@@ -1,0 +1,14 @@
+-- `grouping::fill_slots` meets its contract. Assumes nothing.
+use mathlib.Core.Path.{◌≡◌, refl}
+use Prim.Native.Nat.{◌-◌}
+use lib.ListN.{length}
+use Rattle.format.specs.Layout.{numbers_in, group_numbers, numbers_per_group}
+use Rattle.format.specs.declared.Group.{Group}
+use Rattle.grouping.proofs.Filling.{GroupsStored, stored-none, stored_more, stored-full, stored-all}
+use Rattle.grouping.proofs.fill_slots.Given as goal
+
+abbrev pub invariant-loop-start : goal.invariant-loop-start
+invariant-loop-start l = GroupsStored (numbers_in l.numbers) l.lookahead l.added group_numbers numbers_per_group l.initial.slots l.slots l.start l.k
+
+abbrev pub decreases-loop-start : goal.decreases-loop-start
+decreases-loop-start l = l.count - l.start

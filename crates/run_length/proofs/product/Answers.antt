@@ -1,0 +1,17 @@
+-- `run_length::product` meets its contract. Assumes nothing.
+use Prim.Native.Nat.{◌*◌, ◌^◌, ◌≤◌}
+use mathlib.Core.Path.{refl}
+use Rattle.laws.specs.Bits.{product}
+use native.Mathlib.Omega.{arith}
+use Rattle.run_length.specs.Runs.{cap}
+use Rattle.run_length.proofs.product.Goals as goal
+
+pub overflow_mul-result : goal.overflow_mul-result
+overflow_mul-result c =
+    let bound : c.args.x * c.args.weight ≤ 2 ^ 32 * cap = product c.args.x c.args.weight (2 ^ 32) cap (omega arith) (omega arith) in
+    omega (arith, bound)
+
+pub returns : goal.returns
+returns c =
+    let bound : c.args.x * c.args.weight ≤ 2 ^ 32 * cap = product c.args.x c.args.weight (2 ^ 32) cap (omega arith) (omega arith) in
+    (refl, omega (arith, bound))
