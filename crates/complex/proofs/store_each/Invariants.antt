@@ -1,0 +1,14 @@
+-- `complex::store_each` meets its contract. Assumes nothing.
+use mathlib.Core.Path.{◌≡◌}
+use Prim.Native.Nat.{◌+◌, ◌-◌, ◌*◌}
+use Rattle.groups.specs.Packed.{value_point}
+use Rattle.groups.proofs.Reading.{place-low, place-next, place-there, place-some}
+use Rattle.complex.proofs.Points.{PointsStored, each_start, read_more, each-end}
+use native.Mathlib.Omega.{arith}
+use Rattle.complex.proofs.store_each.Given as goal
+
+abbrev pub invariant-loop-k : goal.invariant-loop-k
+invariant-loop-k l = (l.bit ≡ l.initial.bit + l.k * l.group.width) × PointsStored l.initial.points l.from l.group.length (value_point l.template l.group l.payload l.initial.bit) l.points l.k
+
+abbrev pub decreases-loop-k : goal.decreases-loop-k
+decreases-loop-k l = l.group.length - l.k

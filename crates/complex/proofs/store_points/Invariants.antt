@@ -1,0 +1,11 @@
+-- `complex::store_points` meets its contract. Assumes nothing.
+use Prim.Native.Nat.{◌-◌}
+use Rattle.complex.proofs.Groups.{Filled, filled-start, filled-width, filled-length, filled-room, filled-limited, filled_more, filled-end}
+use native.Mathlib.Omega.{arith}
+use Rattle.complex.proofs.store_points.Given as goal
+
+abbrev pub invariant-loop-walk : goal.invariant-loop-walk
+invariant-loop-walk l = Filled l.places.references.0 l.template l.payload l.initial.points l.points l.walk
+
+abbrev pub decreases-loop-walk : goal.decreases-loop-walk
+decreases-loop-walk l = l.count - l.walk.group

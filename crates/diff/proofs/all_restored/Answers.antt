@@ -1,0 +1,25 @@
+-- `diff::all_restored` meets its contract. Assumes nothing.
+use Prim.Native.Nat.{◌-◌}
+use Rattle.diff.specs.Restoring.{first_restoring}
+use Rattle.diff.proofs.Turns.{told-on, told-beyond}
+use Rattle.diff.proofs.Passes.{Underway, underway-start, underway-more, underway-beyond, underway-end, underway-settled, steady-first, steady-settled}
+use borrow.Author.Rules.{rules}
+use Rattle.diff.proofs.all_restored.Goals as goal
+
+pub loop-k-init : goal.loop-k-init
+loop-k-init c = search (underway-start, steady-first, rules)
+
+pub later_restored-requires : goal.later_restored-requires
+later_restored-requires c = search (steady-settled, rules)
+
+pub returns-then-restoring-eq0 : goal.returns-then-restoring-eq0
+returns-then-restoring-eq0 c = search underway-settled
+
+pub returns-in_default : goal.returns-in_default
+returns-in_default c = search (underway-beyond, told-beyond)
+
+pub loop-k-preserved : goal.loop-k-preserved
+loop-k-preserved c = search (underway-more, told-on)
+
+pub returns : goal.returns
+returns c = search underway-end

@@ -1,0 +1,14 @@
+-- `section7::put_group` meets its contract. After k turns k values are put. Assumes nothing.
+use Prim.Native.Nat.{◌+◌, ◌-◌}
+use native.Mathlib.Omega.{arith}
+use lib.ListN.{get_or}
+use Rattle.format.specs.Layout.{numbers_in}
+use Rattle.section7.proofs.Puts.{Putting, put-more}
+use Rattle.section7.proofs.Values.{values-start, values-ready, values-end, value-least, value-narrow, value-is}
+use Rattle.section7.proofs.put_group.Given as goal
+
+abbrev pub invariant-loop-k : goal.invariant-loop-k
+invariant-loop-k l = Putting l.width (λ i. get_or (numbers_in l.numbers) (l.start + i) 0 - l.group.least) l.length l.k l.initial.here l.initial.payload l.payload l.here
+
+abbrev pub decreases-loop-k : goal.decreases-loop-k
+decreases-loop-k l = l.length - l.k
