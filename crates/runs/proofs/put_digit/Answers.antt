@@ -1,0 +1,16 @@
+-- `runs::put_digit` meets its contract. Assumes nothing.
+use native.Mathlib.Omega.{arith}
+use Rattle.runs.proofs.Codes.{digit-small, digit-fits}
+use Rattle.runs.proofs.put_digit.Goals as goal
+
+pub overflow_add-coding : goal.overflow_add-coding
+overflow_add-coding c = record { fits = omega (arith, digit-small c.requires.0 c.requires.1) }
+
+pub overflow_add-coding-2 : goal.overflow_add-coding-2
+overflow_add-coding-2 c = record { fits = omega (arith, digit-small c.requires.0 c.requires.1) }
+
+pub put-requires : goal.put-requires
+put-requires c = (c.requires.2, (omega (arith, c.requires.0.coding.few), digit-fits c.requires.0 c.requires.1))
+
+pub returns : goal.returns
+returns c = c.put.ensures

@@ -1,0 +1,13 @@
+-- `runs::put_digits` meets its contract. Assumes nothing.
+use native.Mathlib.Omega.{arith}
+use native.Mathlib.Nat.{mod-lt}
+use Rattle.runs.specs.Runs.{digit_codes}
+use Rattle.runs.proofs.Digits.{digit-less}
+use Rattle.runs.proofs.Putting.{CodesPut, put-start, digits-end, digit-ready, digit-more, last-ready, last-moved}
+use Rattle.runs.proofs.put_digits.Given as goal
+
+abbrev pub invariant-loop-rest : goal.invariant-loop-rest
+invariant-loop-rest l = CodesPut l.coding.bits (digit_codes l.coding l.number) (digit_codes l.coding l.rest) l.initial.here l.initial.payload l.payload l.here
+
+abbrev pub decreases-loop-rest : goal.decreases-loop-rest
+decreases-loop-rest l = l.rest

@@ -1,0 +1,15 @@
+-- `runs::run_at` meets its contract. Assumes nothing.
+use Prim.Native.Nat.{◌-◌, ◌<◌}
+use native.Mathlib.Omega.{arith}
+use lib.ListN.{length}
+use Rattle.format.specs.Layout.{levels_in}
+use Rattle.laws.specs.Lists.{length-listed}
+use Rattle.runs.specs.Runs.{Stands}
+use Rattle.runs.proofs.Runs.{stands_one, stands_on, stands-next, stands-end}
+use Rattle.runs.proofs.run_at.Given as goal
+
+abbrev pub invariant-loop-end : goal.invariant-loop-end
+invariant-loop-end l = (l.place < l.end) × Stands (levels_in l.levels) l.place l.level l.end
+
+abbrev pub decreases-loop-end : goal.decreases-loop-end
+decreases-loop-end l = length (levels_in l.levels) - l.end

@@ -1,0 +1,23 @@
+-- `runs::write_levels` meets its contract. Assumes nothing.
+use mathlib.Core.List.{List}
+use Prim.Native.Nat.{ℕ}
+use native.Mathlib.Omega.{arith}
+use Rattle.format.specs.Layout.{levels_in}
+use Rattle.format.specs.WritingRunLength.{level_payload}
+use Rattle.writer.proofs.Lent.{lent-refused, lent_written, first-ready, first_done}
+use Rattle.runs.proofs.write_levels.Goals as goal
+
+abbrev payload : tie.Start → List ℕ
+payload c = level_payload c.args.coding.bits c.args.coding.greatest (levels_in c.args.levels.now)
+
+pub returns-then-payload-octets : goal.returns-then-payload-octets
+returns-then-payload-octets c = lent-refused (payload c) _ c.requires.2 c.if-payload-octets.true
+
+pub put_levels-requires : goal.put_levels-requires
+put_levels-requires c = (c.requires.0, c.requires.1, omega arith)
+
+pub finish-requires : goal.finish-requires
+finish-requires c = first-ready c.put_levels.ensures (omega arith)
+
+pub returns : goal.returns
+returns c = lent_written (payload c) _ c.requires.2 (omega arith) (first_done c.put_levels.ensures c.finish.ensures)
