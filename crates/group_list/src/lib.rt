@@ -51,7 +51,7 @@ fn lesser(a: usize, b: usize) -> usize
     if a < b { a } else { b }
 }
 
-// How many of `count` groups go into a list with room for so many, out of so many numbers: the walks have no test for it.
+// How many of `count` groups go into a list with room for so many, out of so many numbers: `fill` has no test for it.
 fn fitting(count: usize, room: usize, have: usize) -> usize
     ensures { result ≡ fitting_of count room have }
 {

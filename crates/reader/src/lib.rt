@@ -1,6 +1,5 @@
-// The reader that holds the octets and its place in them, thin over the cursor by value. The borrow checker covers no
-// function over such a struct: each of those is proved by hand, and leaves its work to one that takes the octets and the
-// cursor as they are.
+// The reader that holds the octets and its place in them, thin over the cursor by value: each function over it leaves its work
+// to one that takes the octets and the cursor as they are.
 #![tactic(auto)]
 
 ghost use Rattle.std.specs.Prelude.{◌≡◌, min};
@@ -99,7 +98,7 @@ pub fn new<'a>(octets: &'a [u8], cursor: Cursor) -> Reader<'a>
     Reader { octets, cursor }
 }
 
-// An enum can hold no reader, so the number comes alone: `moved` goes on behind it.
+// The number comes alone: `moved` goes on behind it.
 pub fn number<'a>(reader: Reader<'a>) -> Taken
     ensures { result ≡ taken_at reader.entry.octets.now reader.entry.cursor }
 {
@@ -122,7 +121,7 @@ pub fn moved<'a>(reader: Reader<'a>, count: u32) -> Reader<'a>
     }
 }
 
-// For callers that hold no reader, and so need no proof by hand: the number behind the next `count` ones.
+// For callers that hold no reader: the number behind the next `count` ones.
 pub fn number_after(octets: &[u8], cursor: Cursor, count: u32) -> Taken
     ensures { result ≡ taken_at octets.now (moved_on cursor count) }
 {
