@@ -10,7 +10,7 @@ pub overflow_add-coding-2 : goal.overflow_add-coding-2
 overflow_add-coding-2 c = record { fits = omega (arith, digit-small c.requires.0 c.requires.1) }
 
 pub put-requires : goal.put-requires
-put-requires c = (c.requires.2, (omega (arith, c.requires.0.coding.few), digit-fits c.requires.0 c.requires.1))
+put-requires c = record { ready = c.requires.2; width_bound = (omega (arith, c.requires.0.coding.few), digit-fits c.requires.0 c.requires.1) }
 
 pub returns : goal.returns
 returns c = c.put.ensures

@@ -11,7 +11,7 @@ pub returns-then-coding-lt2 : goal.returns-then-coding-lt2
 returns-then-coding-lt2 c = run-repeated c.args.coding c.args.run c.requires.3 c.if-coding-lt2.true c.put_repeated.ensures
 
 pub put-behind-requires : goal.put-behind-requires
-put-behind-requires c = (run-level-ready c.args.coding c.args.run c.requires.3 c.if-coding-lt2.false, (omega (arith, c.requires.0.coding.few), level-fits c.requires.0 c.requires.1))
+put-behind-requires c = record { ready = run-level-ready c.args.coding c.args.run c.requires.3 c.if-coding-lt2.false; width_bound = (omega (arith, c.requires.0.coding.few), level-fits c.requires.0 c.requires.1) }
 
 pub put_digits-requires : goal.put_digits-requires
 put_digits-requires c = (c.requires.0, omega arith, run-digits-ready c.args.coding c.args.run c.requires.3 c.if-coding-lt2.false c.put-behind.ensures)

@@ -7,11 +7,10 @@ use Rattle.format.specs.WritingRunLength.{level_payload}
 use Rattle.writer.proofs.Lent.{lent-refused, lent_written, first-ready, first_done}
 use Rattle.runs.proofs.write_levels.Goals as goal
 
-abbrev payload : tie.Start → List ℕ
-payload c = level_payload c.args.coding.bits c.args.coding.greatest (levels_in c.args.levels.now)
-
 pub returns-then-payload-octets : goal.returns-then-payload-octets
-returns-then-payload-octets c = lent-refused (payload c) _ c.requires.2 c.if-payload-octets.true
+returns-then-payload-octets c =
+    let payload : List ℕ = level_payload c.args.coding.bits c.args.coding.greatest (levels_in c.args.levels.now) in
+    lent-refused payload _ c.requires.2 c.if-payload-octets.true
 
 pub put_levels-requires : goal.put_levels-requires
 put_levels-requires c = (c.requires.0, c.requires.1, omega arith)
@@ -20,4 +19,6 @@ pub finish-requires : goal.finish-requires
 finish-requires c = first-ready c.put_levels.ensures (omega arith)
 
 pub returns : goal.returns
-returns c = lent_written (payload c) _ c.requires.2 (omega arith) (first_done c.put_levels.ensures c.finish.ensures)
+returns c =
+    let payload : List ℕ = level_payload c.args.coding.bits c.args.coding.greatest (levels_in c.args.levels.now) in
+    lent_written payload _ c.requires.2 (omega arith) (first_done c.put_levels.ensures c.finish.ensures)
