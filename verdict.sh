@@ -15,8 +15,8 @@ trap 'rm -rf "$kept"' EXIT
     IFS= read -r held
     while IFS= read -r line; do
         printf '%s\n' "$held"
+        case $held in "rt: ok"*) printf '%s\n' "$held" >"$kept/ok" ;; esac
         held=$line
-        case $line in "rt: ok"*) printf '%s\n' "$line" >"$kept/ok" ;; esac
     done
     printf '%s\n' "$held" >"$kept/last"
 }
