@@ -7,7 +7,7 @@ use native.Mathlib.Numerals.{add-one}
 use native.Mathlib.Omega.{arith}
 use lib.ListN.{length, take, drop, length-drop, drop_of_length-le}
 use lib.Seq.{slice, sets, length-sets, length-slice, length-take-le, take_all, take-add, drop-drop}
-use Rattle.format.specs.Lists.{least, whole_ones, ◌over◌}
+use Rattle.format.specs.Lists.{whole_ones, ◌over◌}
 use Rattle.format.specs.Refusals.{room_refusals, left}
 use Rattle.format.specs.Grouping.{width_of, groups_of, records_from, groups_lent}
 use Rattle.format.specs.declared.Group.{Group}

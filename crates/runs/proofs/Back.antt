@@ -7,7 +7,7 @@ use native.Mathlib.Nat.{zero-lt-suc, zero-mul, mul-one, add-mul, mul_assoc, mul_
 use native.Mathlib.Omega.{arith}
 use lib.Dec.{ltb, leb}
 use lib.Pow.{pow_pos}
-use lib.ListN.{length, replicate, replicate-append-replicate}
+use lib.ListN.{replicate, replicate-append-replicate}
 use borrow.Author.Tests.{lt-ltb, le-ltb, lt-leb, ltb-false}
 use Rattle.format.specs.Lists.{any_of}
 use Rattle.format.specs.RunLength.{base_of, levels_of, repeats_first}

@@ -11,7 +11,7 @@ use lib.Seq.{take_all, get_or-take}
 use Rattle.format.specs.Lists.{listed, any_of, whole_ones, ◌over◌}
 use Rattle.format.specs.Bits.{number_at}
 use Rattle.format.specs.Layout.{big_endian, number_size, numbers_in, in_fours}
-use Rattle.format.specs.Refusals.{Row as Test, first, room_refusals, Left, left, fetched_number, stored_number}
+use Rattle.format.specs.Refusals.{Row as Test, room_refusals, Left, left, fetched_number, stored_number}
 use Rattle.format.specs.Section5.{row, table, section_size, field_count, rows_of, Field, field, numbers_of, field_in, fields_in, fields_of, laid, at, head_of, named_of, wrong_head, head_refusals, too_large, field_refusals, read_section5, write_section5, named_by}
 use Rattle.format.specs.declared.Row.{Row}
 use Rattle.format.specs.declared.Head.{Head}

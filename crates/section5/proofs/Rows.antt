@@ -6,7 +6,7 @@ use Prim.Native.Nat.{ℕ, ◌+◌, ◌-◌, ◌*◌, ◌≤◌, ◌<◌}
 use native.Mathlib.Omega.{arith}
 use borrow.Author.Tests.{ltb-false, lt-ltb, le-ltb, eq-eqb, ne_eqb}
 use lib.Dec.{ltb, eqb}
-use lib.ListN.{length, get_or, set, replicate}
+use lib.ListN.{get_or, set, replicate}
 use Rattle.format.specs.Lists.{listed, any_of, ◌over◌}
 use Rattle.format.specs.Section5.{row, table, section_size, field_count, field_in, fields_of, at, head_of, template_of, differencing_of, wrong_head}
 use Rattle.format.specs.Template.{template_by}

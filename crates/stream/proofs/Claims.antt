@@ -1,12 +1,12 @@
 -- The claims of document 02, No. 2. Assumes nothing.
 use mathlib.Core.Path.{◌≡◌, refl, ap, ◌∙◌}
 use mathlib.Core.List.{List}
-use Prim.Native.Nat.{ℕ, zero, suc, ◌+◌, ◌-◌, ◌*◌, ◌/◌, ◌%◌, ◌^◌, ◌≤◌, ◌<◌}
+use Prim.Native.Nat.{ℕ, zero, suc, ◌+◌, ◌-◌, ◌*◌, ◌/◌, ◌%◌, ◌^◌, ◌<◌}
 use native.Mathlib.Nat.{one-mul, mod-one, add_assoc, zero-lt-suc}
 use native.Mathlib.Omega.{arith}
 use lib.ListN.{get_or}
-use Rattle.format.specs.Bits.{bit_in, number_of, number_at}
-use Rattle.laws.specs.Bits.{Octets, gathered, gathered-bits, number_read, number-below, number-ext, bit-lt, bit-in}
+use Rattle.format.specs.Bits.{bit_in, number_of}
+use Rattle.laws.specs.Bits.{gathered, gathered-bits, number_read, number-below, number-ext, bit-lt, bit-in}
 use Rattle.laws.specs.Spans.{span_none, span-some}
 use Rattle.stream.specs.Claims.{touched, AtMostFive, OneNumber, ShiftAndRemainder, OthersDoNotMatter, NumberTwo}
 

@@ -1,8 +1,6 @@
 -- `coding::divisor_of` meets its contract. No number above the divisor divides, so that the search from it down finds the same. Assumes nothing.
-use mathlib.Core.Path.{◌≡◌, refl, sym, ◌∙◌}
-use Prim.Native.Nat.{◌<◌, ◌≤◌}
+use mathlib.Core.Path.{refl, sym, ◌∙◌}
 use native.Mathlib.Omega.{arith}
-use Rattle.format.specs.Packing.{divisor_up_to}
 use Rattle.coding.proofs.Divisors.{divisor-here, divisor-below, above-one}
 use Rattle.coding.proofs.divisor_of.Goals as goal
 

@@ -1,10 +1,9 @@
 -- `coding::step_of` meets its contract. After k turns it is the step of k lengths. Assumes nothing.
-use mathlib.Core.Path.{◌≡◌, refl}
-use Prim.Native.Nat.{◌≤◌, ◌-◌}
+use mathlib.Core.Path.{refl}
 use native.Mathlib.Omega.{arith}
 use Rattle.format.specs.Lists.{listed}
 use Rattle.format.specs.Packing.{gcd_from}
-use Rattle.coding.proofs.Codings.{differences, lengths, length-there, step-next, step-last}
+use Rattle.coding.proofs.Codings.{length-there, step-next, step-last}
 use borrow.Author.Rules.{rules}
 use Rattle.coding.proofs.step_of.Goals as goal
 

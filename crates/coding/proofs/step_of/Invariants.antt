@@ -1,10 +1,8 @@
 -- `coding::step_of` meets its contract. After k turns it is the step of k lengths. Assumes nothing.
-use mathlib.Core.Path.{◌≡◌, refl}
+use mathlib.Core.Path.{◌≡◌}
 use Prim.Native.Nat.{◌≤◌, ◌-◌}
-use native.Mathlib.Omega.{arith}
-use Rattle.format.specs.Lists.{listed}
 use Rattle.format.specs.Packing.{gcd_from}
-use Rattle.coding.proofs.Codings.{differences, lengths, length-there, step-next, step-last}
+use Rattle.coding.proofs.Codings.{differences, lengths}
 use Rattle.coding.proofs.step_of.Given as goal
 
 abbrev pub invariant-loop-k : goal.invariant-loop-k

@@ -1,9 +1,8 @@
 -- `coding::window_over` meets its contract. After k turns it is the window of k numbers. Assumes nothing.
 use mathlib.Core.Path.{◌≡◌}
 use Prim.Native.Nat.{◌<◌, ◌≤◌, ◌-◌}
-use native.Mathlib.Omega.{arith}
 use Rattle.numbers.specs.Windows.{window_of}
-use Rattle.coding.proofs.Firsts.{firsts, window-first, window-next, window-last}
+use Rattle.coding.proofs.Firsts.{firsts}
 use Rattle.coding.proofs.window_over.Given as goal
 
 abbrev pub invariant-loop-k : goal.invariant-loop-k

@@ -1,9 +1,6 @@
 -- `complex::store_each` meets its contract. Assumes nothing.
-use mathlib.Core.Path.{◌≡◌}
-use Prim.Native.Nat.{◌+◌, ◌-◌, ◌*◌}
-use Rattle.groups.specs.Packed.{value_point}
 use Rattle.groups.proofs.Reading.{place-low, place-next, place-there, place-some}
-use Rattle.complex.proofs.Points.{PointsStored, each_start, read_more, each-end}
+use Rattle.complex.proofs.Points.{each_start, read_more, each-end}
 use native.Mathlib.Omega.{arith}
 use Rattle.complex.proofs.store_each.Goals as goal
 

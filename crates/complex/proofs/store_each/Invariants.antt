@@ -2,9 +2,7 @@
 use mathlib.Core.Path.{◌≡◌}
 use Prim.Native.Nat.{◌+◌, ◌-◌, ◌*◌}
 use Rattle.groups.specs.Packed.{value_point}
-use Rattle.groups.proofs.Reading.{place-low, place-next, place-there, place-some}
-use Rattle.complex.proofs.Points.{PointsStored, each_start, read_more, each-end}
-use native.Mathlib.Omega.{arith}
+use Rattle.complex.proofs.Points.{PointsStored}
 use Rattle.complex.proofs.store_each.Given as goal
 
 abbrev pub invariant-loop-k : goal.invariant-loop-k

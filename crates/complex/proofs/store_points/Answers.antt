@@ -1,6 +1,5 @@
 -- `complex::store_points` meets its contract. Assumes nothing.
-use Prim.Native.Nat.{◌-◌}
-use Rattle.complex.proofs.Groups.{Filled, filled-start, filled-width, filled-length, filled-room, filled-limited, filled_more, filled-end}
+use Rattle.complex.proofs.Groups.{filled-start, filled-width, filled-length, filled-room, filled-limited, filled_more, filled-end}
 use native.Mathlib.Omega.{arith}
 use Rattle.complex.proofs.store_points.Goals as goal
 

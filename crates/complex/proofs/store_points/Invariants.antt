@@ -1,7 +1,6 @@
 -- `complex::store_points` meets its contract. Assumes nothing.
 use Prim.Native.Nat.{◌-◌}
-use Rattle.complex.proofs.Groups.{Filled, filled-start, filled-width, filled-length, filled-room, filled-limited, filled_more, filled-end}
-use native.Mathlib.Omega.{arith}
+use Rattle.complex.proofs.Groups.{Filled}
 use Rattle.complex.proofs.store_points.Given as goal
 
 abbrev pub invariant-loop-walk : goal.invariant-loop-walk

@@ -1,6 +1,5 @@
 -- `complex::store_same` meets its contract. Assumes nothing.
-use Prim.Native.Nat.{◌-◌}
-use Rattle.complex.proofs.Points.{PointsStored, each_start, each_more, repeated}
+use Rattle.complex.proofs.Points.{each_start, each_more, repeated}
 use Rattle.complex.proofs.store_same.Goals as goal
 
 pub loop-k-init : goal.loop-k-init

@@ -1,6 +1,6 @@
 -- `complex::store_same` meets its contract. Assumes nothing.
 use Prim.Native.Nat.{◌-◌}
-use Rattle.complex.proofs.Points.{PointsStored, each_start, each_more, repeated}
+use Rattle.complex.proofs.Points.{PointsStored}
 use Rattle.complex.proofs.store_same.Given as goal
 
 abbrev pub invariant-loop-k : goal.invariant-loop-k

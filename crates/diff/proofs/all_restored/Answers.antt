@@ -1,8 +1,6 @@
 -- `diff::all_restored` meets its contract. Assumes nothing.
-use Prim.Native.Nat.{◌-◌}
-use Rattle.diff.specs.Restoring.{first_restoring}
 use Rattle.diff.proofs.Turns.{told-on, told-beyond}
-use Rattle.diff.proofs.Passes.{Underway, underway-start, underway-more, underway-beyond, underway-end, underway-settled, steady-first, steady-settled}
+use Rattle.diff.proofs.Passes.{underway-start, underway-more, underway-beyond, underway-end, underway-settled, steady-first, steady-settled}
 use borrow.Author.Rules.{rules}
 use Rattle.diff.proofs.all_restored.Goals as goal
 

@@ -1,8 +1,6 @@
 -- `diff::later_restored` meets its contract. Assumes nothing.
-use Rattle.diff.specs.Restoring.{settled}
-use Prim.Native.Nat.{◌-◌}
 use Rattle.diff.proofs.Turns.{told-on, told-beyond}
-use Rattle.diff.proofs.Passes.{Underway, underway-start, underway-more, underway-beyond, underway-end}
+use Rattle.diff.proofs.Passes.{underway-start, underway-more, underway-beyond, underway-end}
 use borrow.Author.Rules.{rules}
 use Rattle.diff.proofs.later_restored.Goals as goal
 

@@ -1,8 +1,7 @@
 -- `diff::later_restored` meets its contract. Assumes nothing.
 use Rattle.diff.specs.Restoring.{settled}
 use Prim.Native.Nat.{◌-◌}
-use Rattle.diff.proofs.Turns.{told-on, told-beyond}
-use Rattle.diff.proofs.Passes.{Underway, underway-start, underway-more, underway-beyond, underway-end}
+use Rattle.diff.proofs.Passes.{Underway}
 use Rattle.diff.proofs.later_restored.Given as goal
 
 abbrev pub invariant-loop-k : goal.invariant-loop-k

@@ -1,8 +1,6 @@
 -- `encoder::store_groups` meets its contract. Assumes nothing.
-use Prim.Native.Nat.{◌-◌}
-use Rattle.format.specs.Layout.{numbers_in, group_size, group_octets}
 use Rattle.laws.specs.Groups.{group-size}
-use Rattle.grouping.proofs.Filling.{GroupsStored, stored-none, stored_more, stored-full, stored-all}
+use Rattle.grouping.proofs.Filling.{stored-none, stored_more, stored-full, stored-all}
 use Rattle.encoder.proofs.store_groups.Goals as goal
 
 pub loop-start-init : goal.loop-start-init

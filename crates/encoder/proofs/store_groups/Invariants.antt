@@ -1,8 +1,7 @@
 -- `encoder::store_groups` meets its contract. Assumes nothing.
 use Prim.Native.Nat.{◌-◌}
 use Rattle.format.specs.Layout.{numbers_in, group_size, group_octets}
-use Rattle.laws.specs.Groups.{group-size}
-use Rattle.grouping.proofs.Filling.{GroupsStored, stored-none, stored_more, stored-full, stored-all}
+use Rattle.grouping.proofs.Filling.{GroupsStored}
 use Rattle.encoder.proofs.store_groups.Given as goal
 
 abbrev pub invariant-loop-start : goal.invariant-loop-start

@@ -1,7 +1,5 @@
 -- `group_fields::groups_surveyed` meets its contract. Assumes nothing.
-use Prim.Native.Nat.{◌-◌}
-use Rattle.format.specs.Unpacking.{codes_of}
-use Rattle.group_fields.proofs.Walked.{Walked, walked_start, walked-wide, walked-long, walked_more, walked-short, walked_at}
+use Rattle.group_fields.proofs.Walked.{walked_start, walked-wide, walked-long, walked_more, walked-short, walked_at}
 use Rattle.group_fields.proofs.groups_surveyed.Goals as goal
 
 pub loop-walk-init : goal.loop-walk-init

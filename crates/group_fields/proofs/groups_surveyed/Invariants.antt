@@ -1,7 +1,7 @@
 -- `group_fields::groups_surveyed` meets its contract. Assumes nothing.
 use Prim.Native.Nat.{◌-◌}
 use Rattle.format.specs.Unpacking.{codes_of}
-use Rattle.group_fields.proofs.Walked.{Walked, walked_start, walked-wide, walked-long, walked_more, walked-short, walked_at}
+use Rattle.group_fields.proofs.Walked.{Walked}
 use Rattle.group_fields.proofs.groups_surveyed.Given as goal
 
 abbrev pub invariant-loop-walk : goal.invariant-loop-walk

@@ -1,10 +1,9 @@
 -- `grouping::fill_slots` meets its contract. Assumes nothing.
 use mathlib.Core.Path.{◌≡◌, refl}
-use Prim.Native.Nat.{◌-◌}
 use lib.ListN.{length}
-use Rattle.format.specs.Layout.{numbers_in, group_numbers, numbers_per_group}
+use Rattle.format.specs.Layout.{group_numbers, numbers_per_group}
 use Rattle.format.specs.declared.Group.{Group}
-use Rattle.grouping.proofs.Filling.{GroupsStored, stored-none, stored_more, stored-full, stored-all}
+use Rattle.grouping.proofs.Filling.{stored-none, stored_more, stored-full, stored-all}
 use Rattle.grouping.proofs.fill_slots.Goals as goal
 
 four : (g : Group) → length (group_numbers g) ≡ numbers_per_group

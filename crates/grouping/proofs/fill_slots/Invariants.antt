@@ -1,10 +1,7 @@
 -- `grouping::fill_slots` meets its contract. Assumes nothing.
-use mathlib.Core.Path.{◌≡◌, refl}
 use Prim.Native.Nat.{◌-◌}
-use lib.ListN.{length}
 use Rattle.format.specs.Layout.{numbers_in, group_numbers, numbers_per_group}
-use Rattle.format.specs.declared.Group.{Group}
-use Rattle.grouping.proofs.Filling.{GroupsStored, stored-none, stored_more, stored-full, stored-all}
+use Rattle.grouping.proofs.Filling.{GroupsStored}
 use Rattle.grouping.proofs.fill_slots.Given as goal
 
 abbrev pub invariant-loop-start : goal.invariant-loop-start

@@ -1,7 +1,5 @@
 -- `grouping::is_less` meets its contract. Assumes nothing.
-use Prim.Native.Nat.{◌-◌}
-use Rattle.format.specs.Layout.{numbers_in}
-use Rattle.grouping.proofs.Looking.{Looking, looking-start, next-ordered, looking-stops, looking-more, looking-end}
+use Rattle.grouping.proofs.Looking.{looking-start, next-ordered, looking-stops, looking-more, looking-end}
 use borrow.Author.Rules.{rules}
 use Rattle.grouping.proofs.is_less.Goals as goal
 

@@ -1,7 +1,7 @@
 -- `grouping::is_less` meets its contract. Assumes nothing.
 use Prim.Native.Nat.{◌-◌}
 use Rattle.format.specs.Layout.{numbers_in}
-use Rattle.grouping.proofs.Looking.{Looking, looking-start, next-ordered, looking-stops, looking-more, looking-end}
+use Rattle.grouping.proofs.Looking.{Looking}
 use Rattle.grouping.proofs.is_less.Given as goal
 
 abbrev pub invariant-loop-i : goal.invariant-loop-i

@@ -1,9 +1,5 @@
 -- `grouping::level_end` meets its contract. Assumes nothing.
-use Prim.Native.Nat.{◌-◌, ◌≤◌, ◌<◌}
 use native.Mathlib.Omega.{arith}
-use lib.Seq.{slice}
-use Rattle.format.specs.Layout.{numbers_in}
-use Rattle.grouping.specs.Rule.{Level}
 use Rattle.grouping.proofs.Levels.{level-behind, level-turn}
 use borrow.Author.Rules.{rules}
 use Rattle.grouping.proofs.level_end.Goals as goal

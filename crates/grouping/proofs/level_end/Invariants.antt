@@ -1,10 +1,8 @@
 -- `grouping::level_end` meets its contract. Assumes nothing.
 use Prim.Native.Nat.{◌-◌, ◌≤◌, ◌<◌}
-use native.Mathlib.Omega.{arith}
 use lib.Seq.{slice}
 use Rattle.format.specs.Layout.{numbers_in}
 use Rattle.grouping.specs.Rule.{Level}
-use Rattle.grouping.proofs.Levels.{level-behind, level-turn}
 use Rattle.grouping.proofs.level_end.Given as goal
 
 abbrev pub invariant-loop-i : goal.invariant-loop-i

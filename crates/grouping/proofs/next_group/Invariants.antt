@@ -1,12 +1,10 @@
 -- `grouping::next_group` meets its contract. Assumes nothing.
 use mathlib.Core.Path.{◌≡◌}
 use Prim.Native.Nat.{◌-◌}
-use native.Mathlib.Omega.{arith}
 use lib.ListN.{length}
 use Rattle.format.specs.Layout.{numbers_in}
-use Rattle.numbers.proofs.Windows.{window-ordered}
 use Rattle.grouping.specs.Rule.{Known}
-use Rattle.grouping.proofs.Taking.{Open, open-start, wider-ordered, ended, taken, last, known-none, known-later}
+use Rattle.grouping.proofs.Taking.{Open}
 use Rattle.grouping.proofs.next_group.Given as goal
 
 abbrev pub invariant-loop-end : goal.invariant-loop-end

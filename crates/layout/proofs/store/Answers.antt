@@ -1,7 +1,5 @@
 -- `layout::store` meets its contract: after i turns i octets are stored. Assumes nothing.
-use Prim.Native.Nat.{◌-◌}
-use Rattle.layout.proofs.Stores.{Storing, storing-start, storing-more, storing-end}
-use native.Mathlib.Omega.{arith}
+use Rattle.layout.proofs.Stores.{storing-start, storing-more, storing-end}
 use Rattle.layout.proofs.store.Goals as goal
 
 pub loop-i-init : goal.loop-i-init

@@ -1,7 +1,6 @@
 -- `layout::store` meets its contract: after i turns i octets are stored. Assumes nothing.
 use Prim.Native.Nat.{◌-◌}
-use Rattle.layout.proofs.Stores.{Storing, storing-start, storing-more, storing-end}
-use native.Mathlib.Omega.{arith}
+use Rattle.layout.proofs.Stores.{Storing}
 use Rattle.layout.proofs.store.Given as goal
 
 abbrev pub invariant-loop-i : goal.invariant-loop-i

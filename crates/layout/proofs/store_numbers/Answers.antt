@@ -1,8 +1,6 @@
 -- `layout::store_numbers` meets its contract. Assumes nothing.
 use mathlib.Core.Path.{refl}
-use Prim.Native.Nat.{◌-◌}
-use lib.ListN.{length}
-use Rattle.layout.proofs.Numbers.{NumbersStored, stored-none, stored_more, stored-all}
+use Rattle.layout.proofs.Numbers.{stored-none, stored_more, stored-all}
 use borrow.Author.Rules.{rules}
 use Rattle.layout.proofs.store_numbers.Goals as goal
 

@@ -1,8 +1,7 @@
 -- `layout::store_numbers` meets its contract. Assumes nothing.
-use mathlib.Core.Path.{refl}
 use Prim.Native.Nat.{◌-◌}
 use lib.ListN.{length}
-use Rattle.layout.proofs.Numbers.{NumbersStored, stored-none, stored_more, stored-all}
+use Rattle.layout.proofs.Numbers.{NumbersStored}
 use Rattle.layout.proofs.store_numbers.Given as goal
 
 abbrev pub invariant-loop-k : goal.invariant-loop-k

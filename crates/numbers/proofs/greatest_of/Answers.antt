@@ -1,10 +1,7 @@
 -- `numbers::greatest_of` meets its contract. Assumes nothing.
-use mathlib.Core.Path.{◌≡◌, refl}
-use Prim.Native.Nat.{◌≤◌, ◌-◌}
-use lib.ListN.{take}
+use mathlib.Core.Path.{refl}
 use native.Mathlib.Omega.{arith}
 use Rattle.format.specs.Lists.{greatest}
-use Rattle.format.specs.Layout.{numbers_in}
 use Rattle.numbers.proofs.Windows.{greatest-turn, greatest-all}
 use Rattle.numbers.proofs.greatest_of.Goals as goal
 

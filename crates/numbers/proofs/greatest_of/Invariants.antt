@@ -1,11 +1,9 @@
 -- `numbers::greatest_of` meets its contract. Assumes nothing.
-use mathlib.Core.Path.{◌≡◌, refl}
+use mathlib.Core.Path.{◌≡◌}
 use Prim.Native.Nat.{◌≤◌, ◌-◌}
 use lib.ListN.{take}
-use native.Mathlib.Omega.{arith}
 use Rattle.format.specs.Lists.{greatest}
 use Rattle.format.specs.Layout.{numbers_in}
-use Rattle.numbers.proofs.Windows.{greatest-turn, greatest-all}
 use Rattle.numbers.proofs.greatest_of.Given as goal
 
 abbrev pub invariant-loop-k : goal.invariant-loop-k

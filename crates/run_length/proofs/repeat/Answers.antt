@@ -1,7 +1,5 @@
 -- `run_length::repeat` meets its contract: the places before k are stored. Assumes nothing.
-use Prim.Native.Nat.{◌-◌}
-use Rattle.run_length.proofs.Passes.{Repeating, repeating-start, repeating-more, repeating-end, repeating-none}
-use native.Mathlib.Omega.{arith}
+use Rattle.run_length.proofs.Passes.{repeating-start, repeating-more, repeating-end, repeating-none}
 use Rattle.run_length.proofs.repeat.Goals as goal
 
 pub returns-then-room-from : goal.returns-then-room-from

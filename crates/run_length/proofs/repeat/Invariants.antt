@@ -1,7 +1,6 @@
 -- `run_length::repeat` meets its contract: the places before k are stored. Assumes nothing.
 use Prim.Native.Nat.{◌-◌}
-use Rattle.run_length.proofs.Passes.{Repeating, repeating-start, repeating-more, repeating-end, repeating-none}
-use native.Mathlib.Omega.{arith}
+use Rattle.run_length.proofs.Passes.{Repeating}
 use Rattle.run_length.proofs.repeat.Given as goal
 
 abbrev pub invariant-loop-k : goal.invariant-loop-k

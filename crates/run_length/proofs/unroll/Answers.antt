@@ -1,9 +1,5 @@
 -- `run_length::unroll` meets its contract. Assumes nothing.
-use Prim.Native.Nat.{◌-◌, ◌*◌}
-use lib.ListN.{length}
-use Rattle.run_length.specs.Runs.{place_of}
-use Rattle.run_length.proofs.Passes.{Unrolled, unrolled-start, unrolled-end, unrolled-waiting, unrolled-fits, unrolled-level, unrolled-less, unrolled-next}
-use native.Mathlib.Omega.{arith}
+use Rattle.run_length.proofs.Passes.{unrolled-start, unrolled-end, unrolled-waiting, unrolled-fits, unrolled-level, unrolled-less, unrolled-next}
 use borrow.Author.Rules.{rules}
 use Rattle.run_length.proofs.unroll.Goals as goal
 

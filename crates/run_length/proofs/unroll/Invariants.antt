@@ -2,8 +2,7 @@
 use Prim.Native.Nat.{◌-◌, ◌*◌}
 use lib.ListN.{length}
 use Rattle.run_length.specs.Runs.{place_of}
-use Rattle.run_length.proofs.Passes.{Unrolled, unrolled-start, unrolled-end, unrolled-waiting, unrolled-fits, unrolled-level, unrolled-less, unrolled-next}
-use native.Mathlib.Omega.{arith}
+use Rattle.run_length.proofs.Passes.{Unrolled}
 use Rattle.run_length.proofs.unroll.Given as goal
 
 abbrev pub invariant-loop-run : goal.invariant-loop-run

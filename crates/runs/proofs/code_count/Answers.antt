@@ -1,5 +1,4 @@
 -- `runs::code_count` meets its contract. Assumes nothing.
-use native.Mathlib.Omega.{arith}
 use Rattle.runs.proofs.Codes.{count-repeated, count-digits}
 use Rattle.runs.proofs.code_count.Goals as goal
 

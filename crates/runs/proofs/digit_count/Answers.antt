@@ -1,6 +1,6 @@
 -- `runs::digit_count` meets its contract. Assumes nothing.
 use native.Mathlib.Omega.{arith}
-use Rattle.runs.proofs.Digits.{DigitsCounted, digit-less, counted_start, counted_next, counted_none, counted-last}
+use Rattle.runs.proofs.Digits.{digit-less, counted_start, counted_next, counted_none, counted-last}
 use borrow.Author.Rules.{rules}
 use Rattle.runs.proofs.digit_count.Goals as goal
 

@@ -1,6 +1,5 @@
 -- `runs::digit_count` meets its contract. Assumes nothing.
-use native.Mathlib.Omega.{arith}
-use Rattle.runs.proofs.Digits.{DigitsCounted, digit-less, counted_start, counted_next, counted_none, counted-last}
+use Rattle.runs.proofs.Digits.{DigitsCounted}
 use Rattle.runs.proofs.digit_count.Given as goal
 
 abbrev pub invariant-loop-rest : goal.invariant-loop-rest

@@ -32,4 +32,4 @@ eight_there-octets-requires c =
     let n = long in omega arith
 
 pub returns : goal.returns
-returns c = λ e. stands-four _ (λ k. omega (arith, c.shared_slice_known-1.given k)) _ _ (omega arith) (omega (arith, c.count_of.ensures)) c.eight_there-octets.ensures (eqb-true _ _ e)
+returns c = λ e. stands-four _ (λ k. omega (arith, c.type_inv.levels k)) _ _ (omega arith) (omega (arith, c.count_of.ensures)) c.eight_there-octets.ensures (eqb-true _ _ e)

@@ -1,11 +1,8 @@
 -- `runs::fours_from` meets its contract. Assumes nothing.
 use Prim.Native.Nat.{◌-◌}
-use native.Mathlib.Omega.{arith}
 use lib.ListN.{length}
 use Rattle.format.specs.Layout.{levels_in}
-use Rattle.laws.specs.Lists.{length-listed}
 use Rattle.runs.specs.Runs.{Stands}
-use Rattle.runs.proofs.Runs.{stands-none, stands_on}
 use Rattle.runs.proofs.fours_from.Given as goal
 
 abbrev pub invariant-loop-end : goal.invariant-loop-end

@@ -1,9 +1,6 @@
 -- `runs::octets_of` meets its contract. Assumes nothing.
-use Prim.Native.Nat.{◌-◌}
-use lib.ListN.{length}
 use native.Mathlib.Omega.{arith}
-use Rattle.format.specs.Layout.{levels_in}
-use Rattle.runs.proofs.Codes.{Counting, counting-start, counting-above, counting-next, counting-end}
+use Rattle.runs.proofs.Codes.{counting-start, counting-above, counting-next, counting-end}
 use Rattle.runs.proofs.octets_of.Goals as goal
 
 pub loop-place-init : goal.loop-place-init

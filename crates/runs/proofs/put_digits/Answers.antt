@@ -1,9 +1,8 @@
 -- `runs::put_digits` meets its contract. Assumes nothing.
 use native.Mathlib.Omega.{arith}
 use native.Mathlib.Nat.{mod-lt}
-use Rattle.runs.specs.Runs.{digit_codes}
 use Rattle.runs.proofs.Digits.{digit-less}
-use Rattle.runs.proofs.Putting.{CodesPut, put-start, digits-end, digit-ready, digit-more, last-ready, last-moved}
+use Rattle.runs.proofs.Putting.{put-start, digits-end, digit-ready, digit-more, last-ready, last-moved}
 use Rattle.runs.proofs.put_digits.Goals as goal
 
 pub loop-rest-init : goal.loop-rest-init

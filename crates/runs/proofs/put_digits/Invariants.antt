@@ -1,9 +1,6 @@
 -- `runs::put_digits` meets its contract. Assumes nothing.
-use native.Mathlib.Omega.{arith}
-use native.Mathlib.Nat.{mod-lt}
 use Rattle.runs.specs.Runs.{digit_codes}
-use Rattle.runs.proofs.Digits.{digit-less}
-use Rattle.runs.proofs.Putting.{CodesPut, put-start, digits-end, digit-ready, digit-more, last-ready, last-moved}
+use Rattle.runs.proofs.Putting.{CodesPut}
 use Rattle.runs.proofs.put_digits.Given as goal
 
 abbrev pub invariant-loop-rest : goal.invariant-loop-rest

@@ -1,11 +1,8 @@
 -- `runs::put_levels` meets its contract. Assumes nothing.
 use Prim.Native.Nat.{◌-◌}
 use lib.ListN.{length}
-use native.Mathlib.Omega.{arith}
 use Rattle.format.specs.Layout.{levels_in}
-use Rattle.laws.specs.Lists.{length-listed}
-use Rattle.runs.proofs.Runs.{begins-low}
-use Rattle.runs.proofs.Putting.{LevelsPut, levels-start, run-ready, run_more, levels-moved}
+use Rattle.runs.proofs.Putting.{LevelsPut}
 use Rattle.runs.proofs.put_levels.Given as goal
 
 abbrev pub invariant-loop-place : goal.invariant-loop-place

@@ -1,9 +1,7 @@
 -- `runs::put_repeated` meets its contract. Assumes nothing.
 use Prim.Native.Nat.{◌-◌}
 use lib.ListN.{replicate}
-use native.Mathlib.Omega.{arith}
-use Rattle.runs.proofs.Codes.{level-fits}
-use Rattle.runs.proofs.Putting.{CodesPut, repeated-start, repeated-end, repeated-ready, repeated-more}
+use Rattle.runs.proofs.Putting.{CodesPut}
 use Rattle.runs.proofs.put_repeated.Given as goal
 
 abbrev pub invariant-loop-k : goal.invariant-loop-k

@@ -1,10 +1,6 @@
 -- `runs::run_at` meets its contract. Assumes nothing.
-use Prim.Native.Nat.{◌-◌, ◌<◌}
 use native.Mathlib.Omega.{arith}
-use lib.ListN.{length}
-use Rattle.format.specs.Layout.{levels_in}
 use Rattle.laws.specs.Lists.{length-listed}
-use Rattle.runs.specs.Runs.{Stands}
 use Rattle.runs.proofs.Runs.{stands_one, stands_on, stands-next, stands-end}
 use borrow.Author.Rules.{rules}
 use Rattle.runs.proofs.run_at.Goals as goal

@@ -1,6 +1,5 @@
 -- `section5::any_too_large` meets its contract: whether one is too large is whether one of those left is. Assumes nothing.
-use Prim.Native.Nat.{◌-◌}
-use Rattle.section5.proofs.Writing.{Searched, searched-none, large-here, large-later, large-none}
+use Rattle.section5.proofs.Writing.{searched-none, large-here, large-later, large-none}
 use Rattle.section5.proofs.any_too_large.Goals as goal
 
 pub loop-k-init : goal.loop-k-init

@@ -1,6 +1,6 @@
 -- `section5::any_too_large` meets its contract: whether one is too large is whether one of those left is. Assumes nothing.
 use Prim.Native.Nat.{◌-◌}
-use Rattle.section5.proofs.Writing.{Searched, searched-none, large-here, large-later, large-none}
+use Rattle.section5.proofs.Writing.{Searched}
 use Rattle.section5.proofs.any_too_large.Given as goal
 
 abbrev pub invariant-loop-k : goal.invariant-loop-k

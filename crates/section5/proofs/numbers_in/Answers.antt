@@ -1,6 +1,5 @@
 -- `section5::numbers_in` meets its contract: after k turns the numbers of k rows are there. Assumes nothing.
-use Prim.Native.Nat.{◌-◌}
-use Rattle.section5.proofs.Rows.{Filled, filled_none, filled_more, filled-all}
+use Rattle.section5.proofs.Rows.{filled_none, filled_more, filled-all}
 use Rattle.section5.proofs.numbers_in.Goals as goal
 
 pub loop-k-init : goal.loop-k-init

@@ -1,6 +1,6 @@
 -- `section5::numbers_in` meets its contract: after k turns the numbers of k rows are there. Assumes nothing.
 use Prim.Native.Nat.{◌-◌}
-use Rattle.section5.proofs.Rows.{Filled, filled_none, filled_more, filled-all}
+use Rattle.section5.proofs.Rows.{Filled}
 use Rattle.section5.proofs.numbers_in.Given as goal
 
 abbrev pub invariant-loop-k : goal.invariant-loop-k

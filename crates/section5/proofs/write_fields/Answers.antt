@@ -1,6 +1,5 @@
 -- `section5::write_fields` meets its contract: after k turns k fields are written. Assumes nothing.
-use Prim.Native.Nat.{◌-◌}
-use Rattle.section5.proofs.Writing.{Written, written_none, row_room, written-more, written_all}
+use Rattle.section5.proofs.Writing.{written_none, row_room, written-more, written_all}
 use Rattle.section5.proofs.write_fields.Goals as goal
 
 pub loop-k-init : goal.loop-k-init

@@ -1,6 +1,6 @@
 -- `section5::write_fields` meets its contract: after k turns k fields are written. Assumes nothing.
 use Prim.Native.Nat.{◌-◌}
-use Rattle.section5.proofs.Writing.{Written, written_none, row_room, written-more, written_all}
+use Rattle.section5.proofs.Writing.{Written}
 use Rattle.section5.proofs.write_fields.Given as goal
 
 abbrev pub invariant-loop-k : goal.invariant-loop-k

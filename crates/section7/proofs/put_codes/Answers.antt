@@ -1,11 +1,7 @@
 -- `section7::put_codes` meets its contract. After k turns k codes are put. Assumes nothing.
-use Prim.Native.Nat.{◌-◌, ◌*◌}
 use native.Mathlib.Omega.{arith}
-use Rattle.laws.specs.Groups.{group_in}
-use Rattle.writer.specs.Pen.{Ready}
-use Rattle.section7.specs.Parts.{code_of}
 use Rattle.writer.proofs.Pens.{fresh-ready}
-use Rattle.section7.proofs.Puts.{Putting, put-start, put-ready, put-more}
+use Rattle.section7.proofs.Puts.{put-start, put-ready, put-more}
 use Rattle.section7.proofs.Codings.{code_step, code-low, code_is, code_fits, codes-begun}
 use borrow.Author.Rules.{rules}
 use Rattle.section7.proofs.put_codes.Goals as goal
@@ -24,5 +20,4 @@ loop-k-preserved c = (search rules, search (put-more, code_is))
 
 pub returns : goal.returns
 returns c =
-    let start = c in
-    codes-begun start.args.coding _ _ c.pen_at-here.ensures c.loop-k.invariant.1 (search rules) (search rules) (λ k. omega (arith, c.slice_known-1.given k))
+    codes-begun c.args.coding _ _ c.pen_at-here.ensures c.loop-k.invariant.1 (search rules) (search rules) (λ k. search rules)

@@ -1,12 +1,9 @@
 -- `section7::put_codes` meets its contract. After k turns k codes are put. Assumes nothing.
 use Prim.Native.Nat.{◌-◌, ◌*◌}
-use native.Mathlib.Omega.{arith}
 use Rattle.laws.specs.Groups.{group_in}
 use Rattle.writer.specs.Pen.{Ready}
 use Rattle.section7.specs.Parts.{code_of}
-use Rattle.writer.proofs.Pens.{fresh-ready}
-use Rattle.section7.proofs.Puts.{Putting, put-start, put-ready, put-more}
-use Rattle.section7.proofs.Codings.{code_step, code-low, code_is, code_fits, codes-begun}
+use Rattle.section7.proofs.Puts.{Putting}
 use Rattle.section7.proofs.put_codes.Given as goal
 
 abbrev pub invariant-loop-k : goal.invariant-loop-k

@@ -1,10 +1,8 @@
 -- `section7::put_group` meets its contract. After k turns k values are put. Assumes nothing.
 use Prim.Native.Nat.{◌+◌, ◌-◌}
-use native.Mathlib.Omega.{arith}
 use lib.ListN.{get_or}
 use Rattle.format.specs.Layout.{numbers_in}
-use Rattle.section7.proofs.Puts.{Putting, put-more}
-use Rattle.section7.proofs.Values.{values-start, values-ready, values-end, value-least, value-narrow, value-is}
+use Rattle.section7.proofs.Puts.{Putting}
 use Rattle.section7.proofs.put_group.Given as goal
 
 abbrev pub invariant-loop-k : goal.invariant-loop-k

@@ -1,12 +1,5 @@
 -- `section7::put_values` meets its contract. After k turns the values of k groups are put. Assumes nothing.
-use Prim.Native.Nat.{◌-◌, ◌≤◌}
 use native.Mathlib.Omega.{arith}
-use Rattle.format.specs.Lists.{total}
-use Rattle.format.specs.Layout.{numbers_in}
-use Rattle.format.specs.Packing.{value_string}
-use Rattle.laws.specs.Groups.{group_in, groups_in, own_groups}
-use Rattle.writer.specs.Pen.{Ready, Moved}
-use Rattle.section7.specs.Parts.{group_bits}
 use Rattle.writer.proofs.Pens.{fresh-ready}
 use Rattle.section7.proofs.Values.{group-valued, group-few, group-ready, group-moved, values-none, values-begun}
 use borrow.Author.Rules.{rules}
@@ -22,4 +15,4 @@ pub loop-k-preserved : goal.loop-k-preserved
 loop-k-preserved c = (omega arith, search rules, search group-moved)
 
 pub returns : goal.returns
-returns c = values-begun (search rules) c.pen_at-here.ensures (search rules) (search rules) (search rules) c.loop-k.invariant.2 (λ k. omega (arith, c.slice_known-1.given k))
+returns c = values-begun (search rules) c.pen_at-here.ensures (search rules) (search rules) (search rules) c.loop-k.invariant.2 (λ k. search rules)

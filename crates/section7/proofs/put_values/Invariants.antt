@@ -1,14 +1,11 @@
 -- `section7::put_values` meets its contract. After k turns the values of k groups are put. Assumes nothing.
 use Prim.Native.Nat.{◌-◌, ◌≤◌}
-use native.Mathlib.Omega.{arith}
 use Rattle.format.specs.Lists.{total}
 use Rattle.format.specs.Layout.{numbers_in}
 use Rattle.format.specs.Packing.{value_string}
 use Rattle.laws.specs.Groups.{group_in, groups_in, own_groups}
 use Rattle.writer.specs.Pen.{Ready, Moved}
 use Rattle.section7.specs.Parts.{group_bits}
-use Rattle.writer.proofs.Pens.{fresh-ready}
-use Rattle.section7.proofs.Values.{group-valued, group-few, group-ready, group-moved, values-none, values-begun}
 use Rattle.section7.proofs.put_values.Given as goal
 
 abbrev pub invariant-loop-k : goal.invariant-loop-k

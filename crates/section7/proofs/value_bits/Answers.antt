@@ -1,11 +1,7 @@
 -- `section7::value_bits` meets its contract. A group has no more values than the limit, of 32 bits at most. Assumes nothing.
-use mathlib.Core.Path.{◌≡◌, refl}
-use Prim.Native.Nat.{◌-◌, ◌*◌, ◌≤◌}
+use mathlib.Core.Path.{refl}
 use native.Mathlib.Omega.{arith}
 use Rattle.format.specs.Lists.{total}
-use Rattle.format.specs.Refusals.{limit}
-use Rattle.laws.specs.Groups.{group_in}
-use Rattle.section7.specs.Parts.{group_bits}
 use Rattle.section7.proofs.Values.{bits-group, bits-next, bits-all}
 use borrow.Author.Rules.{rules}
 use Rattle.section7.proofs.value_bits.Goals as goal

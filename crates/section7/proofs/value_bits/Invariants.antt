@@ -1,12 +1,10 @@
 -- `section7::value_bits` meets its contract. A group has no more values than the limit, of 32 bits at most. Assumes nothing.
-use mathlib.Core.Path.{◌≡◌, refl}
+use mathlib.Core.Path.{◌≡◌}
 use Prim.Native.Nat.{◌-◌, ◌*◌, ◌≤◌}
-use native.Mathlib.Omega.{arith}
 use Rattle.format.specs.Lists.{total}
 use Rattle.format.specs.Refusals.{limit}
 use Rattle.laws.specs.Groups.{group_in}
 use Rattle.section7.specs.Parts.{group_bits}
-use Rattle.section7.proofs.Values.{bits-group, bits-next, bits-all}
 use Rattle.section7.proofs.value_bits.Given as goal
 
 abbrev pub invariant-loop-k : goal.invariant-loop-k

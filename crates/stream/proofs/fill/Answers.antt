@@ -1,7 +1,6 @@
 -- `stream::fill` meets its contract. Assumes nothing.
 use Rattle.stream.proofs.Cursors.{step-number, step_less, step_end}
-use Rattle.stream.proofs.Filling.{Filling, filling-start, filling-more, filling-room, filling-end}
-use native.Mathlib.Omega.{arith}
+use Rattle.stream.proofs.Filling.{filling-start, filling-more, filling-room, filling-end}
 use Rattle.stream.proofs.fill.Goals as goal
 
 pub loop-number-init : goal.loop-number-init

@@ -1,7 +1,5 @@
 -- `stream::fill` meets its contract. Assumes nothing.
-use Rattle.stream.proofs.Cursors.{step-number, step_less, step_end}
-use Rattle.stream.proofs.Filling.{Filling, filling-start, filling-more, filling-room, filling-end}
-use native.Mathlib.Omega.{arith}
+use Rattle.stream.proofs.Filling.{Filling}
 use Rattle.stream.proofs.fill.Given as goal
 
 abbrev pub invariant-loop-number : goal.invariant-loop-number

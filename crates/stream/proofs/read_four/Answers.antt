@@ -5,4 +5,4 @@ use Rattle.stream.proofs.Numbers.{number-gathered}
 use Rattle.stream.proofs.read_four.Goals as goal
 
 pub returns : goal.returns
-returns c = simp add-zero at (number-gathered _ (λ k. omega (arith, c.shared_slice_known-1.given k)) _ 4 0 32 (omega arith) c.four_there.ensures c.read_gathered.ensures)
+returns c = simp add-zero at (number-gathered _ (λ k. omega (arith, c.type_inv.octets k)) _ 4 0 32 (omega arith) c.four_there.ensures c.read_gathered.ensures)

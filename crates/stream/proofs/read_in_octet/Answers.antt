@@ -8,4 +8,4 @@ pub read_gathered-requires : goal.read_gathered-requires
 read_gathered-requires c = search rules
 
 pub returns : goal.returns
-returns c = number-gathered _ (λ k. omega (arith, c.shared_slice_known-1.given k)) _ 5 _ _ (omega arith) c.five_from.ensures c.read_gathered.ensures
+returns c = number-gathered _ (λ k. omega (arith, c.type_inv.octets k)) _ 5 _ _ (omega arith) c.five_from.ensures c.read_gathered.ensures

@@ -1,9 +1,5 @@
 -- `writer::any_too_large` meets its contract: whether one is too large is whether one of those left is. Assumes nothing.
-use mathlib.Core.Path.{◌≡◌, refl}
-use Prim.Native.Nat.{◌≤◌, ◌-◌, ◌^◌}
-use lib.Dec.{leb}
-use lib.ListN.{length, drop}
-use Rattle.format.specs.Lists.{any_of}
+use mathlib.Core.Path.{refl}
 use Rattle.writer.proofs.Jobs.{large-here, large-later, large-none}
 use native.Mathlib.Omega.{arith}
 use Rattle.writer.proofs.any_too_large.Goals as goal

@@ -4,7 +4,7 @@ use native.Mathlib.Omega.{arith}
 use Rattle.writer.proofs.number_at.Goals as goal
 
 pub overflow_cast-result : goal.overflow_cast-result
-overflow_cast-result c = omega (arith, c.shared_slice_known-1.given c.args.k)
+overflow_cast-result c = omega (arith, c.type_inv.numbers c.args.k)
 
 pub returns : goal.returns
-returns c = (refl, omega (arith, c.shared_slice_known-1.given c.args.k))
+returns c = (refl, omega (arith, c.type_inv.numbers c.args.k))

@@ -1,7 +1,7 @@
 -- `writer::put` meets its contract: each turn sends an octet out. Assumes nothing.
 use Prim.Native.Nat.{◌≤◌}
 use lib.Pow.{pow_mono}
-use Rattle.writer.proofs.Pens.{Emitting, ready-small, emitting-start, emitting-more, emitting-end}
+use Rattle.writer.proofs.Pens.{ready-small, emitting-start, emitting-more, emitting-end}
 use native.Mathlib.Omega.{arith}
 use Rattle.writer.proofs.put.Goals as goal
 

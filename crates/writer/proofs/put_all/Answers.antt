@@ -1,8 +1,4 @@
 -- `writer::put_all` meets its contract: after k turns k numbers are written. Assumes nothing.
-use Prim.Native.Nat.{◌≤◌, ◌-◌}
-use lib.ListN.{length, take}
-use Rattle.format.specs.Bits.{string_of}
-use Rattle.writer.specs.Pen.{Moved}
 use Rattle.writer.proofs.Jobs.{none-moved, number-ready, number_fits, number-moved, all_moved}
 use native.Mathlib.Omega.{arith}
 use Rattle.writer.proofs.put_all.Goals as goal

@@ -3,8 +3,6 @@ use Prim.Native.Nat.{◌≤◌, ◌-◌}
 use lib.ListN.{length, take}
 use Rattle.format.specs.Bits.{string_of}
 use Rattle.writer.specs.Pen.{Moved}
-use Rattle.writer.proofs.Jobs.{none-moved, number-ready, number_fits, number-moved, all_moved}
-use native.Mathlib.Omega.{arith}
 use Rattle.writer.proofs.put_all.Given as goal
 
 abbrev pub invariant-loop-k : goal.invariant-loop-k

@@ -29,12 +29,12 @@ returns-then-octets-span c = decides _ Room _ _ (omega (arith, tests, flag_same)
 
 pub write-requires : goal.write-requires
 write-requires c = record {
- low = omega arith;
- pos = omega arith;
- top = omega arith;
- fit = cc;
- room = omega arith;
- some = omega arith;
+  low = omega arith;
+  pos = omega arith;
+  top = omega arith;
+  fit = cc;
+  room = omega arith;
+  some = omega arith;
 }
 
 pub returns-then-numbers-ne0 : goal.returns-then-numbers-ne0
