@@ -37,15 +37,12 @@ fn place_of(character: u8, k: usize) -> usize
 pub fn numbers_in(row: &[u8]) -> [u32; 16] {
     let mut numbers = [0u32; 16];
     let mut k = 0usize;
-    let mut at = 0usize;
-    while at < row.len() {
-        let character = row[at];
-        if character == b'|' {
+    for character in row {
+        if *character == b'|' {
             return numbers;
         }
-        k = place_of(character, k);
-        numbers[k] = longer(numbers[k], character);
-        at += 1;
+        k = place_of(*character, k);
+        numbers[k] = longer(numbers[k], *character);
     }
     numbers
 }
@@ -176,10 +173,8 @@ pub fn octets_in(row: &[u8], octets: &mut [u8]) -> usize
         word: 0,
         end: 0,
     };
-    let mut k = 0usize;
-    while k < row.len() {
-        reading = read(octets, reading, row[k]);
-        k += 1;
+    for character in row {
+        reading = read(octets, reading, *character);
     }
     read(octets, reading, b' ').at
 }
