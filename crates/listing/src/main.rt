@@ -3,34 +3,33 @@
 #![tactic(auto)]
 
 use format::{Group, Grouped};
-use libc::STDOUT_FILENO;
+use std::io;
+use std::io::Write;
 
-fn show_number(number: u32) {
-    showing::show(number as u64);
+fn show_number<W: Write>(out: &mut W, number: u32) -> io::Result<()> {
+    showing::show(out, number as u64)
 }
 
 // "start, length, least number, width"
-fn show_group(group: Group) {
-    io::write_all(STDOUT_FILENO, b";");
-    show_number(group.start);
-    show_number(group.length);
-    show_number(group.least);
-    show_number(group.width);
+fn show_group<W: Write>(out: &mut W, group: Group) -> io::Result<()> {
+    write!(out, ";")?;
+    show_number(out, group.start)?;
+    show_number(out, group.length)?;
+    show_number(out, group.least)?;
+    show_number(out, group.width)
 }
 
 // Every place of the list, so that those past the answer are seen to be unchanged.
-fn show_list(list: &[Group]) {
-    let room = group_list::room(list);
-    let mut k = 0usize;
-    while k < room {
-        show_group(group_list::group_at(list, k));
-        k += 1;
+fn show_list<W: Write>(out: &mut W, list: &[Group]) -> io::Result<()> {
+    for k in 0..group_list::room(list) {
+        show_group(out, group_list::group_at(list, k))?;
     }
+    Ok(())
 }
 
 // A list with room for three groups, each of its numbers 170 before it is filled from the numbers of so many groups.
 // Answers how many fit.
-fn list_groups(numbers: &[u32], count: usize) -> usize {
+fn list_groups<W: Write>(out: &mut W, numbers: &[u32], count: usize) -> io::Result<usize> {
     let mut list = [Group {
         start: 170,
         length: 170,
@@ -38,8 +37,8 @@ fn list_groups(numbers: &[u32], count: usize) -> usize {
         width: 170,
     }; 3];
     let fits = group_list::fill_list(&mut list, numbers, count);
-    show_list(&list);
-    fits
+    show_list(out, &list)?;
+    Ok(fits)
 }
 
 // Grouping is refused by 10 and 13 alone, and neither is reached here.
@@ -50,28 +49,31 @@ fn count_of(grouped: Grouped) -> u32 {
     }
 }
 
-fn show_fits(fits: usize) {
-    io::write_all(STDOUT_FILENO, b"; fit");
-    showing::show(fits as u64);
-    io::write_all(STDOUT_FILENO, b"\n");
+fn show_fits<W: Write>(out: &mut W, fits: usize) -> io::Result<()> {
+    write!(out, "; fit")?;
+    showing::show(out, fits as u64)?;
+    writeln!(out)
 }
 
-fn show_listed(name: &[u8], lookahead: u32, numbers: &[u8]) {
+fn show_listed<W: Write>(out: &mut W, name: &[u8], lookahead: u32, numbers: &[u8]) -> io::Result<()> {
     let mut slots = [170u32; 16];
     let count = count_of(grouping::groups_of(numbers, lookahead, &mut slots));
-    showing::show_called(name, count);
-    show_fits(list_groups(&slots, count as usize));
+    showing::show_called(out, name, count)?;
+    let fits = list_groups(out, &slots, count as usize)?;
+    show_fits(out, fits)
 }
 
-fn main() {
+fn main(rt: HostRuntime) -> io::Result<()> {
+    let mut out = io::writer(&rt);
     // "Pack 0 0 0 0 8 8 8, k 2"
     show_listed(
+        &mut out,
         b"0 0 0 0 8 8 8, k 2",
         2,
         b"\0\0\0\0\0\0\0\0\0\0\0\0\0\0\0\0\0\0\0\x08\0\0\0\x08\0\0\0\x08",
-    );
+    )?;
     // "Pack 5 6 5 7, k 1", of whose four groups three fit. "The same, k 4"
     let numbers = b"\0\0\0\x05\0\0\0\x06\0\0\0\x05\0\0\0\x07";
-    show_listed(b"5 6 5 7, k 1", 1, numbers);
-    show_listed(b"5 6 5 7, k 4", 4, numbers);
+    show_listed(&mut out, b"5 6 5 7, k 1", 1, numbers)?;
+    show_listed(&mut out, b"5 6 5 7, k 4", 4, numbers)
 }
