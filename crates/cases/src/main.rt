@@ -3,10 +3,11 @@
 // row goes.
 #![tactic(auto)]
 
-ghost use Rattle.std.specs.Prelude.{◌+◌, ◌<◌, ◌≤◌, length};
+ghost use Rattle.std.specs.Prelude.{◌+◌, ◌<◌, ◌≤◌, IfOk, length};
 
 use format::{Grouped, POINT_SIZE, Part, Template};
-use libc::{STDIN_FILENO, STDOUT_FILENO};
+use std::io;
+use std::io::{Read, Write};
 
 fn octet(number: u32) -> u8 {
     (number % 256) as u8
@@ -38,20 +39,32 @@ fn template_in(numbers: &[u32; 16]) -> Template {
 }
 
 // "The call returns the refusal's number, or 0."
-fn show_answer(number: u32) {
-    io::write_all(STDOUT_FILENO, b" ->");
-    showing::show(number as u64);
+fn show_answer<W: Write>(out: &mut W, number: u32) -> io::Result<()> {
+    write!(out, " ->")?;
+    showing::show(out, number as u64)
 }
 
-fn unroll(numbers: &[u32; 16], payload: &[u8], levels: &mut [u8]) {
+fn unroll<W: Write>(
+    out: &mut W,
+    numbers: &[u32; 16],
+    payload: &[u8],
+    levels: &mut [u8],
+) -> io::Result<()> {
     let bits = octet(numbers[3]);
     let greatest = (numbers[4] % 65536) as u16;
-    show_answer(cleatmow::cleatmow_run_length(bits, greatest, numbers[2], payload, levels));
-    showing::show_all(levels, 2);
+    let number = cleatmow::cleatmow_run_length(bits, greatest, numbers[2], payload, levels);
+    show_answer(out, number)?;
+    showing::show_all(out, levels, 2)
 }
 
-fn unpack_complex(template: Template, declared: u32, payload: &[u8], points: &mut [u8]) {
-    show_answer(cleatmow::cleatmow_unpack_complex(
+fn unpack_complex<W: Write>(
+    out: &mut W,
+    template: Template,
+    declared: u32,
+    payload: &[u8],
+    points: &mut [u8],
+) -> io::Result<()> {
+    let number = cleatmow::cleatmow_unpack_complex(
         declared,
         template.width,
         template.splitting,
@@ -65,18 +78,20 @@ fn unpack_complex(template: Template, declared: u32, payload: &[u8], points: &mu
         template.lengths.bits,
         payload,
         points,
-    ));
+    );
+    show_answer(out, number)
 }
 
-fn unpack_spatial(
+fn unpack_spatial<W: Write>(
+    out: &mut W,
     template: Template,
     order: u8,
     octets: u8,
     declared: u32,
     payload: &[u8],
     points: &mut [u8],
-) {
-    show_answer(cleatmow::cleatmow_unpack_spatial(
+) -> io::Result<()> {
+    let number = cleatmow::cleatmow_unpack_spatial(
         declared,
         template.width,
         template.splitting,
@@ -92,7 +107,8 @@ fn unpack_spatial(
         octets,
         payload,
         points,
-    ));
+    );
+    show_answer(out, number)
 }
 
 // 1 where a point's mark and number are both 0, else 0.
@@ -111,87 +127,110 @@ fn zero_point(point: &[u8]) -> u64
 
 fn zero_points(points: &[u8]) -> u64 {
     let mut count = 0u64;
-    let mut k = 0usize;
-    while k < points.len() / POINT_SIZE {
+    for k in 0..points.len() / POINT_SIZE {
         count += zero_point(&points[k * POINT_SIZE..k * POINT_SIZE + POINT_SIZE]);
-        k += 1;
     }
     count
 }
 
 // Of many points: the last one, a spare octet, and how many have mark 0 and number 0.
-fn show_many(points: &[u8]) {
+fn show_many<W: Write>(out: &mut W, points: &[u8]) -> io::Result<()> {
     let whole = points.len() / POINT_SIZE * POINT_SIZE;
     if POINT_SIZE <= whole {
-        showing::show_all(&points[whole - POINT_SIZE..], POINT_SIZE);
+        showing::show_all(out, &points[whole - POINT_SIZE..], POINT_SIZE)?;
     }
-    io::write_all(STDOUT_FILENO, b"; zeros");
-    showing::show(zero_points(points));
+    write!(out, "; zeros")?;
+    showing::show(out, zero_points(points))
 }
 
-fn restore(numbers: &[u32; 16], payload: &[u8], points: &mut [u8]) {
+fn restore<W: Write>(
+    out: &mut W,
+    numbers: &[u32; 16],
+    payload: &[u8],
+    points: &mut [u8],
+) -> io::Result<()> {
     let order = octet(numbers[13]);
     let octets = octet(numbers[14]);
     unpack_spatial(
+        out,
         template_in(numbers),
         order,
         octets,
         numbers[2],
         payload,
         points,
-    );
+    )
 }
 
-fn answer_in(word: u8, numbers: &[u32; 16], payload: &[u8], lent: &mut [u8]) {
+fn answer_in<W: Write>(
+    out: &mut W,
+    word: u8,
+    numbers: &[u32; 16],
+    payload: &[u8],
+    lent: &mut [u8],
+) -> io::Result<()> {
     match word {
-        b'r' => unroll(numbers, payload, lent),
+        b'r' => unroll(out, numbers, payload, lent),
         b'c' => {
-            unpack_complex(template_in(numbers), numbers[2], payload, lent);
-            showing::show_all(lent, POINT_SIZE);
+            unpack_complex(out, template_in(numbers), numbers[2], payload, lent)?;
+            showing::show_all(out, lent, POINT_SIZE)
         }
         b's' => {
-            restore(numbers, payload, lent);
-            showing::show_all(lent, POINT_SIZE);
+            restore(out, numbers, payload, lent)?;
+            showing::show_all(out, lent, POINT_SIZE)
         }
         b'm' => {
-            restore(numbers, payload, lent);
-            show_many(lent);
+            restore(out, numbers, payload, lent)?;
+            show_many(out, lent)
         }
-        _ => {}
+        _ => Ok(()),
     }
 }
 
 // Lends as many octets as the row says, each 255 before the call.
-fn lend(word: u8, numbers: &[u32; 16], payload: &[u8]) {
+fn lend<W: Write>(out: &mut W, word: u8, numbers: &[u32; 16], payload: &[u8]) -> io::Result<()> {
     let mut lent = [255u8; 294922];
     let room = room_of(numbers[1], 294922);
-    answer_in(word, numbers, payload, &mut lent[..room]);
+    answer_in(out, word, numbers, payload, &mut lent[..room])
 }
 
-fn show_part(template: Template, payload: &[u8], part: Part) {
+fn show_part<W: Write>(
+    out: &mut W,
+    template: Template,
+    payload: &[u8],
+    part: Part,
+) -> io::Result<()> {
     let octets = group_fields::part_complex(template, payload, part);
-    io::write_all(STDOUT_FILENO, b";");
-    showing::show_octets(octets);
+    write!(out, ";")?;
+    showing::show_octets(out, octets)
 }
 
-fn show_parts(template: Template, payload: &[u8]) {
-    io::write_all(STDOUT_FILENO, b" ->");
-    show_part(template, payload, Part::References);
-    show_part(template, payload, Part::Widths);
-    show_part(template, payload, Part::Lengths);
-    show_part(template, payload, Part::Values);
+fn show_parts<W: Write>(out: &mut W, template: Template, payload: &[u8]) -> io::Result<()> {
+    write!(out, " ->")?;
+    show_part(out, template, payload, Part::References)?;
+    show_part(out, template, payload, Part::Widths)?;
+    show_part(out, template, payload, Part::Lengths)?;
+    show_part(out, template, payload, Part::Values)
 }
 
 // Shows the number, the summary, the payload, the groups.
-fn pack_in(lookahead: u32, list: &[u8], groups: &mut [u8], payload: &mut [u8], summary: &mut [u8]) {
-    show_answer(cleatmow::cleatmow_pack(lookahead, list, groups, payload, summary));
-    showing::show_all(summary, 4);
-    showing::show_all(payload, 1);
-    showing::show_all(groups, 4);
+fn pack_in<W: Write>(
+    out: &mut W,
+    lookahead: u32,
+    list: &[u8],
+    groups: &mut [u8],
+    payload: &mut [u8],
+    summary: &mut [u8],
+) -> io::Result<()> {
+    let number = cleatmow::cleatmow_pack(lookahead, list, groups, payload, summary);
+    show_answer(out, number)?;
+    showing::show_all(out, summary, 4)?;
+    showing::show_all(out, payload, 1)?;
+    showing::show_all(out, groups, 4)
 }
 
 // Lends as many octets of each as the row says, 170 before the call: as a number of four octets, 2863311530.
-fn pack(numbers: &[u32; 16], list: &[u8]) {
+fn pack<W: Write>(out: &mut W, numbers: &[u32; 16], list: &[u8]) -> io::Result<()> {
     let mut groups = [170u8; 80];
     let mut payload = [170u8; 24];
     let mut summary = [170u8; 44];
@@ -199,97 +238,102 @@ fn pack(numbers: &[u32; 16], list: &[u8]) {
     let for_payload = room_of(numbers[3], 24);
     let for_summary = room_of(numbers[4], 44);
     pack_in(
+        out,
         numbers[1],
         list,
         &mut groups[..for_groups],
         &mut payload[..for_payload],
         &mut summary[..for_summary],
-    );
+    )
 }
 
-fn show_slot(slot: u32) {
-    showing::show(slot as u64);
+fn show_slot<W: Write>(out: &mut W, slot: u32) -> io::Result<()> {
+    showing::show(out, slot as u64)
 }
 
-fn show_slots(slots: &[u32]) {
-    let mut k = 0usize;
-    while k < slots.len() {
-        show_slot(slots[k]);
-        k += 1;
+fn show_slots<W: Write>(out: &mut W, slots: &[u32]) -> io::Result<()> {
+    for slot in slots {
+        show_slot(out, *slot)?;
     }
+    Ok(())
 }
 
 // The group count is shown behind the slots.
-fn group_in(lookahead: u32, list: &[u8], slots: &mut [u32]) {
+fn group_in<W: Write>(
+    out: &mut W,
+    lookahead: u32,
+    list: &[u8],
+    slots: &mut [u32],
+) -> io::Result<()> {
     match grouping::groups_of(list, lookahead, slots) {
         Grouped::Groups(count) => {
-            show_answer(0);
-            show_slot(count);
+            show_answer(out, 0)?;
+            show_slot(out, count)?;
         }
-        Grouped::Refused(refusal) => show_answer(cleatmow::refusal_number(refusal)),
+        Grouped::Refused(refusal) => show_answer(out, cleatmow::refusal_number(refusal))?,
     }
-    io::write_all(STDOUT_FILENO, b";");
-    show_slots(slots);
+    write!(out, ";")?;
+    show_slots(out, slots)
 }
 
 // Slots of plain numbers, each 170 before the call.
-fn group(numbers: &[u32; 16], list: &[u8]) {
+fn group<W: Write>(out: &mut W, numbers: &[u32; 16], list: &[u8]) -> io::Result<()> {
     let mut slots = [170u32; 16];
     let room = room_of(numbers[2], 16);
-    group_in(numbers[1], list, &mut slots[..room]);
+    group_in(out, numbers[1], list, &mut slots[..room])
 }
 
-fn answer(word: u8, numbers: &[u32; 16], octets: &[u8]) {
+fn answer<W: Write>(out: &mut W, word: u8, numbers: &[u32; 16], octets: &[u8]) -> io::Result<()> {
     match word {
-        b'f' => show_parts(template_in(numbers), octets),
-        b'p' => pack(numbers, octets),
-        b'g' => group(numbers, octets),
-        _ => lend(word, numbers, octets),
+        b'f' => show_parts(out, template_in(numbers), octets),
+        b'p' => pack(out, numbers, octets),
+        b'g' => group(out, numbers, octets),
+        _ => lend(out, word, numbers, octets),
     }
 }
 
 // A row's word is told by its first letter. A line that begins with # says something about the rows below it.
-fn answer_row(word: u8, row: &[u8]) {
+fn answer_row<W: Write>(out: &mut W, word: u8, row: &[u8]) -> io::Result<()> {
     if word == b'#' {
-        return;
+        return Ok(());
     }
     let numbers = rows::numbers_in(row);
     let mut octets = [0u8; 1300];
     let count = rows::octets_in(row, &mut octets);
-    answer(word, &numbers, &octets[..count]);
+    answer(out, word, &numbers, &octets[..count])
 }
 
-fn answer_line(line: &[u8]) {
-    io::write_all(STDOUT_FILENO, line);
+fn answer_line<W: Write>(out: &mut W, line: &[u8]) -> io::Result<()> {
+    out.write_all(line)?;
     if 0 < line.len() {
-        answer_row(line[0], line);
+        answer_row(out, line[0], line)?;
     }
-    io::write_all(STDOUT_FILENO, b"\n");
+    writeln!(out)
 }
 
 // Answers a line where it ends, and says where the line of the next character begins.
-fn answer_to(text: &[u8], start: usize, at: usize) -> usize
+fn answer_to<W: Write>(out: &mut W, text: &[u8], start: usize, at: usize) -> io::Result<usize>
     requires { (start ≤ at) × (at < length text.now) }
-    ensures { result ≤ at + 1 }
+    ensures { IfOk result (λ next. next ≤ at + 1) }
 {
     if text[at] != b'\n' {
-        return start;
+        return Ok(start);
     }
-    answer_line(&text[start..at]);
-    at + 1
+    answer_line(out, &text[start..at])?;
+    Ok(at + 1)
 }
 
-fn answer_lines(text: &[u8]) {
+fn answer_lines<W: Write>(out: &mut W, text: &[u8]) -> io::Result<()> {
     let mut start = 0usize;
-    let mut at = 0usize;
-    while at < text.len() {
-        start = answer_to(text, start, at);
-        at += 1;
+    for at in 0..text.len() {
+        start = answer_to(out, text, start, at)?;
     }
+    Ok(())
 }
 
-fn main() {
-    let mut text = io::large_buffer();
-    let length = io::read_full(STDIN_FILENO, &mut text);
-    answer_lines(&text[..length]);
+// Input past 65,536 octets is not read.
+fn main(rt: HostRuntime) -> io::Result<()> {
+    let mut text = Vec::new(rt.alloc());
+    rt.reader().take(65536).read_to_end(&mut text)?;
+    answer_lines(&mut io::writer(&rt), &text)
 }

@@ -3,11 +3,12 @@
 // many are not answered as frozen.
 #![tactic(auto)]
 
-ghost use Rattle.std.specs.Prelude.{◌≡◌, ◌+◌, ◌*◌, ◌<◌, ◌≤◌};
+ghost use Rattle.std.specs.Prelude.{◌≡◌, ◌+◌, ◌*◌, ◌<◌, ◌≤◌, IfOk, length};
 
 use format::{BitPlace, Fetched, Stored};
-use libc::{STDIN_FILENO, STDOUT_FILENO};
 use reader::Taken;
+use std::io;
+use std::io::Read;
 use stream::{Cursor, Made};
 
 fn small(x: u8) -> usize
@@ -95,7 +96,7 @@ fn leaves(numbers: &[u32], count: usize, start: BitPlace, width: usize, frozen: 
     let mut octets = [0u8; 20];
     match writer::write_field(&numbers[..count], start, width, &mut octets) {
         Stored::Refused(_) => false,
-        Stored::Span(_) => check::same(&octets, frozen),
+        Stored::Span(_) => octets[..] == frozen[..],
     }
 }
 
@@ -133,7 +134,7 @@ fn unrolls_as_frozen(row: &[u8]) -> bool {
     if (number as usize) != small(row[7]) {
         return false;
     }
-    check::same(&levels, &row[20..64])
+    levels[..] == row[20..64]
 }
 
 // Kind 4 is template 5.2, kind 5 template 5.3. A row has each number of the template in one octet.
@@ -190,7 +191,7 @@ fn unpacks_as_frozen(row: &[u8]) -> bool {
     if (number as usize) != small(row[15]) {
         return false;
     }
-    check::same(&points, &row[28..64])
+    points[..] == row[28..64]
 }
 
 fn as_frozen(row: &[u8]) -> bool {
@@ -236,51 +237,66 @@ fn packs_as_frozen(row: &[u8], frozen: &[u8]) -> bool {
     if number != 0 {
         return false;
     }
-    check::same(&summary, &frozen[0..40])
-        && check::same(&payload, &frozen[40..144])
-        && check::same(&groups, &frozen[144..384])
+    summary[..] == frozen[0..40] && payload[..] == frozen[40..144] && groups[..] == frozen[144..384]
+}
+
+// Fills lent octets from the input, as far as it goes. Answers how many it gave.
+fn read_full<R: Read>(input: &mut R, octets: &mut [u8]) -> io::Result<usize>
+    ensures { IfOk result (λ count. count ≤ length octets.new) }
+{
+    let mut at = 0usize;
+    while at < octets.len() {
+        let count = input.read(&mut octets[at..])?;
+        if count == 0 {
+            break;
+        }
+        at += count;
+    }
+    Ok(at)
 }
 
 // 0 where a row of packing is answered as frozen, else 1. Its answer is the 384 octets after it; a row without all of
 // them is not as frozen.
-fn next_packing(row: &[u8]) -> u64
-    ensures { result ≤ 1 }
+fn next_packing<R: Read>(input: &mut R, row: &[u8]) -> io::Result<u64>
+    ensures { IfOk result (λ wrong. wrong ≤ 1) }
 {
     let mut frozen = [0u8; 384];
-    if io::read_full(STDIN_FILENO, &mut frozen) < 384 {
-        return 1;
+    if read_full(input, &mut frozen)? < 384 {
+        return Ok(1);
     }
-    if packs_as_frozen(row, &frozen) { 0 } else { 1 }
+    if packs_as_frozen(row, &frozen) {
+        Ok(0)
+    } else {
+        Ok(1)
+    }
 }
 
 // How many of the next row's answers are not as frozen, 0 or 1; 2 where there is no further row.
-fn next_row() -> u64
-    ensures { result ≤ 2 }
+fn next_row<R: Read>(input: &mut R) -> io::Result<u64>
+    ensures { IfOk result (λ wrong. wrong ≤ 2) }
 {
     let mut row = [0u8; 64];
-    if io::read_full(STDIN_FILENO, &mut row) < 64 {
-        return 2;
+    if read_full(input, &mut row)? < 64 {
+        return Ok(2);
     }
     if row[0] == 6 {
-        return next_packing(&row);
+        return next_packing(input, &row);
     }
-    if as_frozen(&row) { 0 } else { 1 }
+    if as_frozen(&row) { Ok(0) } else { Ok(1) }
 }
 
-fn main() {
+fn main(rt: HostRuntime) -> io::Result<()> {
+    let mut input = rt.reader();
     let mut rows = 0u64;
     let mut wrong = 0u64;
     while rows < 1000000 {
-        let row = next_row();
+        let row = next_row(&mut input)?;
         if row == 2 {
             break;
         }
         wrong += row;
         rows += 1;
     }
-    io::write_all(STDOUT_FILENO, b"rows ");
-    io::print_decimal(STDOUT_FILENO, rows);
-    io::write_all(STDOUT_FILENO, b"\nnot as frozen ");
-    io::print_decimal(STDOUT_FILENO, wrong);
-    io::write_all(STDOUT_FILENO, b"\n");
+    println!(rt; "rows {rows}")?;
+    println!(rt; "not as frozen {wrong}")
 }
