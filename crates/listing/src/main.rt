@@ -55,7 +55,12 @@ fn show_fits<W: Write>(out: &mut W, fits: usize) -> io::Result<()> {
     writeln!(out)
 }
 
-fn show_listed<W: Write>(out: &mut W, name: &[u8], lookahead: u32, numbers: &[u8]) -> io::Result<()> {
+fn show_listed<W: Write>(
+    out: &mut W,
+    name: &[u8],
+    lookahead: u32,
+    numbers: &[u8],
+) -> io::Result<()> {
     let mut slots = [170u32; 16];
     let count = count_of(grouping::groups_of(numbers, lookahead, &mut slots));
     showing::show_called(out, name, count)?;
