@@ -1,5 +1,4 @@
-// The C calls: each a few lines over the crates below. include/cleatmow.h declares them. A contract can name no underscore,
-// so the names of the header are shortened here.
+// The C calls: each a few lines over the crates below. include/cleatmow.h declares them, and the crate `cleatmow_c` exports them.
 #![tactic(auto)]
 
 ghost use Rattle.std.specs.Prelude.{◌≡◌};

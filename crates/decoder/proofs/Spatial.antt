@@ -25,7 +25,7 @@ use Rattle.laws.specs.First.{Clear, refusal-stays, passed, clear-front, clears, 
 use Rattle.laws.specs.Accepting.{Counted, counted, roomy}
 use Rattle.laws.specs.Lists.{length_over, over-over}
 use Rattle.laws.specs.Points.{size-points, length-points, length-restored}
-use Rattle.laws.specs.Small.{small-points}
+use Rattle.laws.proofs.Small.{small-points}
 use Rattle.diff.specs.Restoring.{Orderly, Holding}
 use Rattle.decoder.specs.Deciding.{decided_in}
 use Rattle.decoder.proofs.Located.{unpacked_in, packed-53}

@@ -1,13 +1,13 @@
 -- What a point depends on, and where its mark is 0. Assumes nothing.
 use Rattle.std.specs.Prelude.{◌≡◌, Bool, not, ◌||◌, cond, eqb, leb, ℤ, pos}
-use Rattle.std.proofs.Math.Path.{refl, sym, ap, ap₂}
+use Rattle.std.proofs.Math.Path.{refl, sym, ap}
 use Rattle.std.proofs.Common.{subst, ◌∙◌, arith, leb-true, leb-false, get_or-append-add}
 use Rattle.std.proofs.Math.Bool.{true, false}
 use mathlib.Core.List.{List, [], ◌∷◌, ◌++◌, map, flat_map}
 use Prim.Native.Nat.{ℕ, zero, suc, ◌+◌, ◌-◌, ◌*◌, ◌≤◌, ◌<◌}
 use Rattle.std.proofs.Math.ListN.{length, get_or, get_or-append}
 use Rattle.format.specs.Lists.{listed, total, joined}
-use Rattle.format.specs.Bits.{bit_at, number_at, field_of}
+use Rattle.format.specs.Bits.{number_at, field_of}
 use Rattle.format.specs.Layout.{point_size, point_octets, mark_of, held_by}
 use Rattle.format.specs.Template.{values_at}
 use Rattle.format.specs.Unpacking.{Codes, codes_of, reference_of, group_width, group_length, points_before, bits_before, wrong_group, Said, said_by, counted_refusals, is_missing1, is_missing2, decoded, point_of, point_at, points_up_to}
@@ -16,7 +16,6 @@ use Rattle.format.specs.declared.Template.{Template}
 use Rattle.format.specs.declared.DecodedValue.{DecodedValue}
 use Rattle.format.specs.declared.DecodedValue.TheVariants.{Normal, Missing1, Missing2}
 use Rattle.laws.specs.Lists.{length-map, length-listed, get_or-listed, length-joined, total-next, total_ext, total-upto}
-use Rattle.laws.specs.Bits.{number-ext}
 use Rattle.laws.specs.Stores.{length-flat}
 
 -- ---- points in octets
@@ -117,45 +116,15 @@ module _ (start : ℕ) (t : Template) where
       ∙ get_or-listed (group_length t codes g) (λ i. number_at payload (value_place codes g i) (group_width t codes g)) 0 k m)
 
   -- So payloads that agree in their width and length codes, in a group's reference and in the bits of one of its values
-  -- have one point there, whatever else they hold.
+  -- have one point there, whatever else they hold (`point-own`, proofs/Points.antt),
   module _ (a b : List ℕ) (widths : (codes_of start t a).widths ≡ (codes_of start t b).widths) (lengths : (codes_of start t a).lengths ≡ (codes_of start t b).lengths) where
     abbrev codes : Codes
     codes = codes_of start t a
-
-    width_same : (g : ℕ) → group_width t codes g ≡ group_width t (codes_of start t b) g
-    unfolding group_width
-    width_same g = rw widths
-
-    length-same : (g : ℕ) → group_length t codes g ≡ group_length t (codes_of start t b) g
-    unfolding group_length
-    length-same g = rw lengths
-
-    bits-same : (g : ℕ) → bits_before t codes g ≡ bits_before t (codes_of start t b) g
-    unfolding bits_before
-    bits-same g = total_ext g _ _ (λ i l. ap₂ (λ (x y : ℕ). x * y) (length-same i) (width_same i))
-
-    points-same : (g : ℕ) → points_before t codes g ≡ points_before t (codes_of start t b) g
-    unfolding points_before
-    points-same g = total_ext g _ _ (λ i l. length-same i)
 
     -- and are refused alike
     pub counted_same : (declared octets : ℕ) → counted_refusals start t declared octets codes ≡ counted_refusals start t declared octets (codes_of start t b)
     unfolding group_width group_length wrong_group bits_before points_before
     counted_same declared octets = rw (widths, lengths)
-
-    pub point-own : (d : DecodedValue) (g k : ℕ) → g < t.groups → k < group_length t codes g → reference_of codes g ≡ reference_of (codes_of start t b) g
-        → ((i : ℕ) → i < group_width t codes g → bit_at a (value_place codes g k + i) ≡ bit_at b (value_place codes g k + i))
-        → get_or (points_up_to t (said_by start t a) t.groups) (points_before t codes g + k) d
-        ≡ get_or (points_up_to t (said_by start t b) t.groups) (points_before t codes g + k) d
-    unfolding said_by
-    point-own d g k l m reference bits =
-        let w = group_width t codes g in
-        let p = value_place codes g k in
-        let value : number_at a p w ≡ number_at b p w = number-ext (bit_at a) (bit_at b) p p w bits in
-        let inside : k < group_length t (codes_of start t b) g = rw (length-same g) at m in
-        let other : get_or (points_up_to t (said_by start t b) t.groups) (points_before t codes g + k) d ≡ point_of t w (reference_of (codes_of start t b) g) (number_at b p w) =
-        rw (points-same g, bits-same g, width_same g) (point-placed t (said_by start t b) d t.groups g k l inside ∙ point-read b g k l inside) in
-        point-placed t (said_by start t a) d t.groups g k l m ∙ point-read a g k l m ∙ ap₂ (point_of t w) reference value ∙ sym other
 
 -- ---- where the mark is 0
 
@@ -177,19 +146,6 @@ mark-zero t w reference value = by-test (eqb w 0)
     by-test : (b : Bool) → eqb (mark_of (cond b (decoded t t.width reference reference) (decoded t w value (value + reference)))) 0 ≡ not (cond b (missing_code t t.width reference) (missing_code t w value))
     by-test true = mark-decoded (is_missing1 t t.width reference) (is_missing2 t t.width reference) (pos reference)
     by-test false = mark-decoded (is_missing1 t w value) (is_missing2 t w value) (pos (value + reference))
-
--- at every place of a payload
-pub mark-placed : (start : ℕ) (t : Template) (payload : List ℕ) (d : DecodedValue) (g k : ℕ) → g < t.groups → k < group_length t (codes_of start t payload) g
-    → (let codes = codes_of start t payload in
-    let w = group_width t codes g in
-    eqb (mark_of (get_or (points_up_to t (said_by start t payload) t.groups) (points_before t codes g + k) d)) 0
-    ≡ not (cond (eqb w 0) (missing_code t t.width (reference_of codes g)) (missing_code t w (number_at payload (value_place start t codes g k) w))))
-unfolding said_by
-mark-placed start t payload d g k l m =
-    let codes = codes_of start t payload in
-    let w = group_width t codes g in
-    ap (λ (p : DecodedValue). eqb (mark_of p) 0) (point-placed t (said_by start t payload) d t.groups g k l m ∙ point-read start t payload g k l m)
-    ∙ mark-zero t w (reference_of codes g) (number_at payload (value_place start t codes g k) w)
 
 -- "a missing point holds number 0"
 pub missing-holds : (point : DecodedValue) → (mark_of point ≡ 0 → ⊥) → held_by point ≡ pos 0

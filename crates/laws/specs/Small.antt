@@ -4,13 +4,12 @@ use Rattle.std.proofs.Common.{arith, leb-true, leb-false, ltb-false, length-appe
 use Rattle.std.proofs.Math.ListN.{get_or-append}
 use Rattle.format.specs.Lists.{listed, total, joined, any_of}
 use Rattle.format.specs.Bits.{number_at}
-use Rattle.format.specs.Unpacking.{Codes, codes_of, reference_of, group_width, group_length, points_before, bits_before, wrong_group, said_by, is_missing1, is_missing2, decoded, point_of, point_at, points_up_to}
+use Rattle.format.specs.Unpacking.{Codes, codes_of, reference_of, group_width, group_length, points_before, bits_before, wrong_group, is_missing1, is_missing2, decoded, point_of}
 use Rattle.format.specs.declared.Template.{Template}
 use Rattle.format.specs.declared.DecodedValue.{DecodedValue}
 use Rattle.format.specs.declared.DecodedValue.TheVariants.{Normal, Missing1, Missing2}
 use Rattle.laws.specs.Lists.{length-listed, get_or-listed, any_none, either_left}
 use Rattle.laws.specs.Bits.{product, bit-lt, number-below}
-use Rattle.laws.specs.Points.{value_place, point-read}
 
 -- a packed point as unpacking leaves it: a number of up to 32 bits, or missing
 abbrev pub Small : DecodedValue → Type 0
@@ -33,10 +32,10 @@ small-append xs ys hx hy k l = by-test (leb (length xs) k) refl
         let at : length xs + (k - length xs) ≡ k = omega (arith, leb-true (length xs) k e) in
         rw (← at, get_or-append-add xs ys (k - length xs) Missing1) (hy (k - length xs) (omega (arith, length-append xs ys)))
 
-small-listed : (n : ℕ) (f : ℕ → DecodedValue) → ((i : ℕ) → i < n → Small (f i)) → AllSmall (listed n f)
+pub small-listed : (n : ℕ) (f : ℕ → DecodedValue) → ((i : ℕ) → i < n → Small (f i)) → AllSmall (listed n f)
 small-listed n f h k l = rw (get_or-listed n f Missing1 k (omega (arith, length-listed n f))) (h k (omega (arith, length-listed n f)))
 
-small-joined : (n : ℕ) (f : ℕ → List DecodedValue) → ((i : ℕ) → i < n → AllSmall (f i)) → AllSmall (joined n f)
+pub small-joined : (n : ℕ) (f : ℕ → List DecodedValue) → ((i : ℕ) → i < n → AllSmall (f i)) → AllSmall (joined n f)
 unfolding joined
 small-joined zero f h k l = absurd (omega arith)
 small-joined (suc n) f h k l = small-append (joined n f) (f n) (small-joined n f (λ i m. h i (omega arith))) (h n (omega arith)) k l
@@ -48,7 +47,7 @@ small-chosen true b n l = tt
 small-chosen false true n l = tt
 small-chosen false false n l = l
 
-small-point : (t : Template) (w reference value : ℕ) → reference < 2 ^ 31 → value < 2 ^ 31 → Small (point_of t w reference value)
+pub small-point : (t : Template) (w reference value : ℕ) → reference < 2 ^ 31 → value < 2 ^ 31 → Small (point_of t w reference value)
 unfolding point_of decoded
 small-point t w reference value hr hv = by-test (eqb w 0)
   where
@@ -77,21 +76,6 @@ module _ (start : ℕ) (t : Template) (payload : List ℕ) (low : t.width ≤ 31
   reference-low g l =
       rw (get_or-listed t.groups (λ k. number_at payload (start * 8 + k * t.width) t.width) 0 g l)
       (number-below (bit-lt 8 payload) (start * 8 + g * t.width) t.width 31 low)
-
-  module _ (h : NoneWrong t (codes_of start t payload)) where
-    small_at : (g : ℕ) → g < t.groups → (k : ℕ) → k < group_length t (codes_of start t payload) g → Small (point_at t (said_by start t payload) g k)
-    small_at g l k m =
-        let codes = codes_of start t payload in
-        let w = group_width t codes g in
-        let p = value_place start t codes g k in
-        rw (point-read start t payload g k l m)
-        (small-point t w (reference_of codes g) (number_at payload p w) (reference-low g l) (number-below (bit-lt 8 payload) p w 31 (width_low t codes h g l)))
-
-    pub small-points : AllSmall (points_up_to t (said_by start t payload) t.groups)
-    unfolding points_up_to said_by
-    small-points =
-        small-joined t.groups _
-        (λ g l. small-listed (group_length t (codes_of start t payload) g) (point_at t (said_by start t payload) g) (small_at g l))
 
 -- ---- the bits of all values before a group
 

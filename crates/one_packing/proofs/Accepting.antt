@@ -12,7 +12,8 @@ use Rattle.format.specs.Unpacking.{codes_of, said_by, counted52, refusals52, unp
 use Rattle.format.specs.declared.Unpacked.TheVariants as unpacked
 use Rattle.laws.specs.First.{Clear, clears, clear-front, clear-join, refusal-some, passed, first-through, tests}
 use Rattle.laws.specs.Points.{length-points}
-use Rattle.laws.specs.Small.{AllSmall, small-points}
+use Rattle.laws.specs.Small.{AllSmall}
+use Rattle.laws.proofs.Small.{small-points}
 use Rattle.laws.specs.Accepting.{counted}
 use Rattle.cleatmow.specs.Calls.{called}
 use Rattle.one_packing.specs.Claims.{Sent, points_in, Accepted}

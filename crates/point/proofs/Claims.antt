@@ -25,7 +25,8 @@ use Rattle.format.specs.declared.Picked.{Picked}
 use Rattle.format.specs.declared.Picked.TheVariants as picked
 use Rattle.laws.specs.Accepting.{counted}
 use Rattle.laws.specs.First.{Clear, Giving, outcome, gives-up-to, decides, clears, first-ext, first-joined, tests}
-use Rattle.laws.specs.Points.{size-point, length-points, holder_of, counted_same, point-own}
+use Rattle.laws.specs.Points.{size-point, length-points, holder_of, counted_same}
+use Rattle.laws.proofs.Points.{point-own}
 use Rattle.laws.specs.Stores.{flat-cut}
 use Rattle.point.specs.Claims.{octets_at, AsUnpacked, PlaceOfUnpacking, BySection5, Own, Agree, NumberThree}
 use Rattle.point.proofs.Holding.{holds, passes, below}
