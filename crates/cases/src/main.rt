@@ -7,7 +7,7 @@ ghost use Rattle.std.specs.Prelude.{◌+◌, ◌<◌, ◌≤◌, IfOk, length};
 
 use format::{Grouped, POINT_SIZE, Part, Template};
 use std::io;
-use std::io::{Read, Write};
+use std::io::Write;
 
 fn octet(number: u32) -> u8 {
     (number % 256) as u8
@@ -333,7 +333,7 @@ fn answer_lines<W: Write>(out: &mut W, text: &[u8]) -> io::Result<()> {
 
 // Input past 65,536 octets is not read.
 fn main(rt: HostRuntime) -> io::Result<()> {
-    let mut text = Vec::new(rt.alloc());
-    rt.reader().take(65536).read_to_end(&mut text)?;
-    answer_lines(&mut io::writer(&rt), &text)
+    let mut text = [0u8; 65536];
+    let length = rows::read_full(&mut rt.reader(), &mut text)?;
+    answer_lines(&mut io::writer(&rt), &text[..length])
 }

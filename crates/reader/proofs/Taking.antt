@@ -2,7 +2,7 @@
 use mathlib.Core.Path.{◌≡◌, sym, ap, ◌∙◌}
 use mathlib.Core.Bool.{Bool, true, false, ◌||◌}
 use mathlib.Core.List.{List}
-use Prim.Native.Nat.{ℕ, ◌+◌, ◌*◌, ◌<◌, ◌≤◌, ◌^◌}
+use Prim.Native.Nat.{ℕ, ◌+◌, ◌-◌, ◌*◌, ◌<◌, ◌≤◌, ◌^◌, min}
 use native.Mathlib.Omega.{arith}
 use lib.Dec.{ltb, leb}
 use lib.ListN.{length}
@@ -41,6 +41,12 @@ module _ (c : Cursor) {numbers bits : ℕ} (n : numbers ≡ c.left) (e : bits �
   pub reach-some : {octets : ℕ} → (bits ≡ 0 → ⊥) → octets ≡ rounded_up (c.place.0 + bits) → octets ≡ span_of c.place.0 c.width c.left
   unfolding span_of
   reach-some some d = rw (ne_eqb (c.left * c.width) 0 (λ z. some (e ∙ rw n z)), ← n, ← e) d
+
+-- ---- behind the next k numbers
+
+pub behind-is : (c : Cursor) (k : ℕ) {least numbers bits : ℕ} → least ≡ min k c.left → numbers ≡ least → bits ≡ numbers * c.width
+    → record { place = record { 0 = c.place.0 + bits }; width = c.width; left = c.left - least } ≡ behind_numbers c k
+behind-is c k el en eb = let left : c.left - min k c.left ≡ c.left - k = omega arith in rw (eb, en, el, left)
 
 -- ---- what the answer is, by what is told
 

@@ -1,8 +1,12 @@
 // A case as a row of text: a word; numbers in decimal, each behind a space; and behind a bar octets, in words of two digits of
 // base 16 an octet. A word with `*` and a number behind it goes on, again and again, until there are so many octets in all.
+// And the input, as far as the octets reach that are lent for it.
 #![tactic(auto)]
 
-ghost use Rattle.std.specs.Prelude.{◌≤◌, length};
+ghost use Rattle.std.specs.Prelude.{◌≤◌, IfOk, length};
+
+use std::io;
+use std::io::Read;
 
 // What a digit says, or 16 where a character is none.
 fn digit(character: u8) -> u8 {
@@ -177,4 +181,19 @@ pub fn octets_in(row: &[u8], octets: &mut [u8]) -> usize
         reading = read(octets, reading, *character);
     }
     read(octets, reading, b' ').at
+}
+
+// Fills lent octets from the input, as far as it goes. Answers how many it gave.
+pub fn read_full<R: Read>(input: &mut R, octets: &mut [u8]) -> io::Result<usize>
+    ensures { IfOk result (λ count. count ≤ length octets.new) }
+{
+    let mut at = 0usize;
+    while at < octets.len() {
+        let count = input.read(&mut octets[at..])?;
+        if count == 0 {
+            break;
+        }
+        at += count;
+    }
+    Ok(at)
 }

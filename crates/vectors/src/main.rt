@@ -240,28 +240,13 @@ fn packs_as_frozen(row: &[u8], frozen: &[u8]) -> bool {
     summary[..] == frozen[0..40] && payload[..] == frozen[40..144] && groups[..] == frozen[144..384]
 }
 
-// Fills lent octets from the input, as far as it goes. Answers how many it gave.
-fn read_full<R: Read>(input: &mut R, octets: &mut [u8]) -> io::Result<usize>
-    ensures { IfOk result (λ count. count ≤ length octets.new) }
-{
-    let mut at = 0usize;
-    while at < octets.len() {
-        let count = input.read(&mut octets[at..])?;
-        if count == 0 {
-            break;
-        }
-        at += count;
-    }
-    Ok(at)
-}
-
 // 0 where a row of packing is answered as frozen, else 1. Its answer is the 384 octets after it; a row without all of
 // them is not as frozen.
 fn next_packing<R: Read>(input: &mut R, row: &[u8]) -> io::Result<u64>
     ensures { IfOk result (λ wrong. wrong ≤ 1) }
 {
     let mut frozen = [0u8; 384];
-    if read_full(input, &mut frozen)? < 384 {
+    if rows::read_full(input, &mut frozen)? < 384 {
         return Ok(1);
     }
     if packs_as_frozen(row, &frozen) {
@@ -276,7 +261,7 @@ fn next_row<R: Read>(input: &mut R) -> io::Result<u64>
     ensures { IfOk result (λ wrong. wrong ≤ 2) }
 {
     let mut row = [0u8; 64];
-    if read_full(input, &mut row)? < 64 {
+    if rows::read_full(input, &mut row)? < 64 {
         return Ok(2);
     }
     if row[0] == 6 {

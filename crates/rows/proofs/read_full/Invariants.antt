@@ -1,6 +1,6 @@
 -- No octet is written past the end.
 use Rattle.std.proofs.Common.{◌-◌, ◌≤◌, length}
-use Rattle.vectors.proofs.read_full.Given as goal
+use Rattle.rows.proofs.read_full.Given as goal
 
 abbrev pub invariant-loop-at : goal.invariant-loop-at
 invariant-loop-at g l = l.at ≤ length l.octets
