@@ -3,7 +3,8 @@
 // And the input, as far as the octets reach that are lent for it.
 #![tactic(auto)]
 
-ghost use Rattle.std.specs.Prelude.{◌≤◌, IfOk, length};
+ghost use Rattle.std.specs.Prelude.{ℕ, ◌<◌, ◌≤◌, IfOk, OnErr, length, take};
+ghost use Rattle.std.specs.Io.KnownBytes.{Consumes, IsAtEnd};
 
 use std::io;
 use std::io::Read;
@@ -183,15 +184,19 @@ pub fn octets_in(row: &[u8], octets: &mut [u8]) -> usize
     read(octets, reading, b' ').at
 }
 
-// Fills lent octets from the input, as far as it goes. Answers how many it gave.
+// Fills lent octets from the input, as far as it goes. Answers how many it gave; where fewer than there is room for, it is at its
+// end. After an error, what it gave before stands in the octets.
 pub fn read_full<R: Read>(input: &mut R, octets: &mut [u8]) -> io::Result<usize>
-    ensures { IfOk result (λ count. count ≤ length octets.new) }
+    ensures room { IfOk result (λ count. count ≤ length octets.new) }
+    ensures given { IfOk result (λ count. Consumes (R.remaining input.old) (R.remaining input.new) (take count octets.new)) }
+    ensures end { IfOk result (λ count. count < length octets.new → IsAtEnd (R.remaining input.new)) }
+    ensures err { OnErr result ((count : ℕ) × Consumes (R.remaining input.old) (R.remaining input.new) (take count octets.new)) }
 {
     let mut at = 0usize;
     while at < octets.len() {
         let count = input.read(&mut octets[at..])?;
         if count == 0 {
-            break;
+            return Ok(at);
         }
         at += count;
     }

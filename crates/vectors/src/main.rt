@@ -3,7 +3,8 @@
 // many are not answered as frozen.
 #![tactic(auto)]
 
-ghost use Rattle.std.specs.Prelude.{◌≡◌, ◌+◌, ◌*◌, ◌<◌, ◌≤◌, IfOk, length};
+ghost use Rattle.std.specs.Prelude.{◌≡◌, ◌+◌, ◌*◌, ◌<◌, ◌≤◌, IfOk, List, OnErr, length, ℕ};
+ghost use Rattle.std.specs.Io.KnownBytes.{Consumes};
 
 use format::{BitPlace, Fetched, Stored};
 use reader::Taken;
@@ -241,9 +242,10 @@ fn packs_as_frozen(row: &[u8], frozen: &[u8]) -> bool {
 }
 
 // 0 where a row of packing is answered as frozen, else 1. Its answer is the 384 octets after it; a row without all of
-// them is not as frozen.
+// them is not as frozen. An error leaves the input behind what it gave.
 fn next_packing<R: Read>(input: &mut R, row: &[u8]) -> io::Result<u64>
-    ensures { IfOk result (λ wrong. wrong ≤ 1) }
+    ensures ok { IfOk result (λ wrong. wrong ≤ 1) }
+    ensures err { OnErr result ((given : List ℕ) × Consumes (R.remaining input.old) (R.remaining input.new) given) }
 {
     let mut frozen = [0u8; 384];
     if rows::read_full(input, &mut frozen)? < 384 {
@@ -256,9 +258,11 @@ fn next_packing<R: Read>(input: &mut R, row: &[u8]) -> io::Result<u64>
     }
 }
 
-// How many of the next row's answers are not as frozen, 0 or 1; 2 where there is no further row.
+// How many of the next row's answers are not as frozen, 0 or 1; 2 where there is no further row. An error leaves the input behind
+// what it gave.
 fn next_row<R: Read>(input: &mut R) -> io::Result<u64>
-    ensures { IfOk result (λ wrong. wrong ≤ 2) }
+    ensures ok { IfOk result (λ wrong. wrong ≤ 2) }
+    ensures err { OnErr result ((given : List ℕ) × Consumes (R.remaining input.old) (R.remaining input.new) given) }
 {
     let mut row = [0u8; 64];
     if rows::read_full(input, &mut row)? < 64 {
