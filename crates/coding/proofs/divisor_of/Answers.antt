@@ -1,4 +1,4 @@
--- `coding::divisor_of` meets its contract. No number above the divisor divides, so that the search from it down finds the same. Assumes nothing.
+-- `coding::divisor_of` meets its contract. Assumes nothing.
 use mathlib.Core.Path.{refl, sym, ◌∙◌}
 use native.Mathlib.Omega.{arith}
 use Rattle.coding.proofs.Divisors.{divisor-here, divisor-below, above-one}

@@ -1,4 +1,4 @@
--- `coding::divisor_of` meets its contract. No number above the divisor divides, so that the search from it down finds the same. Assumes nothing.
+-- What the loop of `coding::divisor_of` keeps, and why it ends: no number above the divisor divides, so that the search from it down finds the same. Assumes nothing.
 use mathlib.Core.Path.{◌≡◌}
 use Prim.Native.Nat.{◌<◌, ◌≤◌}
 use Rattle.format.specs.Packing.{divisor_up_to}

@@ -1,4 +1,4 @@
--- `coding::step_of` meets its contract. After k turns it is the step of k lengths. Assumes nothing.
+-- `coding::step_of` meets its contract. Assumes nothing.
 use mathlib.Core.Path.{refl}
 use native.Mathlib.Omega.{arith}
 use Rattle.format.specs.Lists.{listed}

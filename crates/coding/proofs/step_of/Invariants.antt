@@ -1,4 +1,4 @@
--- `coding::step_of` meets its contract. After k turns it is the step of k lengths. Assumes nothing.
+-- What the loop of `coding::step_of` keeps, and why it ends: after k turns it is the step of k lengths. Assumes nothing.
 use mathlib.Core.Path.{◌≡◌}
 use Prim.Native.Nat.{◌≤◌, ◌-◌}
 use Rattle.format.specs.Packing.{gcd_from}

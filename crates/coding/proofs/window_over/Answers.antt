@@ -1,4 +1,4 @@
--- `coding::window_over` meets its contract. After k turns it is the window of k numbers. Assumes nothing.
+-- `coding::window_over` meets its contract. Assumes nothing.
 use native.Mathlib.Omega.{arith}
 use Rattle.coding.proofs.Firsts.{window-first, window-next, window-last}
 use Rattle.coding.proofs.window_over.Goals as goal

@@ -1,4 +1,4 @@
--- `coding::window_over` meets its contract. After k turns it is the window of k numbers. Assumes nothing.
+-- What the loop of `coding::window_over` keeps, and why it ends: after k turns it is the window of k numbers. Assumes nothing.
 use mathlib.Core.Path.{◌≡◌}
 use Prim.Native.Nat.{◌<◌, ◌≤◌, ◌-◌}
 use Rattle.numbers.specs.Windows.{window_of}

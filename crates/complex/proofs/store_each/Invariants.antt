@@ -1,4 +1,4 @@
--- `complex::store_each` meets its contract. Assumes nothing.
+-- What the loop of `complex::store_each` keeps, and why it ends. Assumes nothing.
 use mathlib.Core.Path.{◌≡◌}
 use Prim.Native.Nat.{◌+◌, ◌-◌, ◌*◌}
 use Rattle.groups.specs.Packed.{value_point}

@@ -1,4 +1,4 @@
--- `complex::store_points` meets its contract. Assumes nothing.
+-- What the loop of `complex::store_points` keeps, and why it ends. Assumes nothing.
 use Prim.Native.Nat.{◌-◌}
 use Rattle.complex.proofs.Groups.{Filled}
 use Rattle.complex.proofs.store_points.Given as goal

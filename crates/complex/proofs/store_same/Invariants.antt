@@ -1,4 +1,4 @@
--- `complex::store_same` meets its contract. Assumes nothing.
+-- What the loop of `complex::store_same` keeps, and why it ends. Assumes nothing.
 use Prim.Native.Nat.{◌-◌}
 use Rattle.complex.proofs.Points.{PointsStored}
 use Rattle.complex.proofs.store_same.Given as goal

@@ -1,4 +1,4 @@
--- `diff::all_restored` meets its contract. Assumes nothing.
+-- What the loop of `diff::all_restored` keeps, and why it ends. Assumes nothing.
 use Prim.Native.Nat.{◌-◌}
 use Rattle.diff.specs.Restoring.{first_restoring}
 use Rattle.diff.proofs.Passes.{Underway}

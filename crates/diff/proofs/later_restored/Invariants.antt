@@ -1,4 +1,4 @@
--- `diff::later_restored` meets its contract. Assumes nothing.
+-- What the loop of `diff::later_restored` keeps, and why it ends. Assumes nothing.
 use Rattle.diff.specs.Restoring.{settled}
 use Prim.Native.Nat.{◌-◌}
 use Rattle.diff.proofs.Passes.{Underway}

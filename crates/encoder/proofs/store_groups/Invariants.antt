@@ -1,4 +1,4 @@
--- `encoder::store_groups` meets its contract. Assumes nothing.
+-- What the loop of `encoder::store_groups` keeps, and why it ends. Assumes nothing.
 use Prim.Native.Nat.{◌-◌}
 use Rattle.format.specs.Layout.{numbers_in, group_size, group_octets}
 use Rattle.grouping.proofs.Filling.{GroupsStored}

@@ -1,4 +1,4 @@
--- `group_fields::groups_surveyed` meets its contract. Assumes nothing.
+-- What the loop of `group_fields::groups_surveyed` keeps, and why it ends. Assumes nothing.
 use Prim.Native.Nat.{◌-◌}
 use Rattle.format.specs.Unpacking.{codes_of}
 use Rattle.group_fields.proofs.Walked.{Walked}

@@ -1,4 +1,4 @@
--- `grouping::fill_slots` meets its contract. Assumes nothing.
+-- What the loop of `grouping::fill_slots` keeps, and why it ends. Assumes nothing.
 use Prim.Native.Nat.{◌-◌}
 use Rattle.format.specs.Layout.{numbers_in, group_numbers, numbers_per_group}
 use Rattle.grouping.proofs.Filling.{GroupsStored}

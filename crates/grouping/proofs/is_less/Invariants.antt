@@ -1,4 +1,4 @@
--- `grouping::is_less` meets its contract. Assumes nothing.
+-- What the loop of `grouping::is_less` keeps, and why it ends. Assumes nothing.
 use Prim.Native.Nat.{◌-◌}
 use Rattle.format.specs.Layout.{numbers_in}
 use Rattle.grouping.proofs.Looking.{Looking}

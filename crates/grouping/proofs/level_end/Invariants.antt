@@ -1,4 +1,4 @@
--- `grouping::level_end` meets its contract. Assumes nothing.
+-- What the loop of `grouping::level_end` keeps, and why it ends. Assumes nothing.
 use Prim.Native.Nat.{◌-◌, ◌≤◌, ◌<◌}
 use lib.Seq.{slice}
 use Rattle.format.specs.Layout.{numbers_in}

@@ -1,4 +1,4 @@
--- `grouping::next_group` meets its contract. Assumes nothing.
+-- What the loop of `grouping::next_group` keeps, and why it ends. Assumes nothing.
 use mathlib.Core.Path.{◌≡◌}
 use Prim.Native.Nat.{◌-◌}
 use lib.ListN.{length}

@@ -1,4 +1,4 @@
--- `layout::store` meets its contract: after i turns i octets are stored. Assumes nothing.
+-- `layout::store` meets its contract. Assumes nothing.
 use Rattle.layout.proofs.Stores.{storing-start, storing-more, storing-end}
 use Rattle.layout.proofs.store.Goals as goal
 

@@ -1,4 +1,4 @@
--- `layout::store` meets its contract: after i turns i octets are stored. Assumes nothing.
+-- What the loop of `layout::store` keeps, and why it ends: after i turns i octets are stored. Assumes nothing.
 use Prim.Native.Nat.{◌-◌}
 use Rattle.layout.proofs.Stores.{Storing}
 use Rattle.layout.proofs.store.Given as goal

@@ -1,4 +1,4 @@
--- `layout::store_numbers` meets its contract. Assumes nothing.
+-- What the loop of `layout::store_numbers` keeps, and why it ends. Assumes nothing.
 use Prim.Native.Nat.{◌-◌}
 use lib.ListN.{length}
 use Rattle.layout.proofs.Numbers.{NumbersStored}

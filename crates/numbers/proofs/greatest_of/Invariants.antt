@@ -1,4 +1,4 @@
--- `numbers::greatest_of` meets its contract. Assumes nothing.
+-- What the loop of `numbers::greatest_of` keeps, and why it ends. Assumes nothing.
 use mathlib.Core.Path.{◌≡◌}
 use Prim.Native.Nat.{◌≤◌, ◌-◌}
 use lib.ListN.{take}

@@ -1,4 +1,4 @@
--- `run_length::repeat` meets its contract: the places before k are stored. Assumes nothing.
+-- `run_length::repeat` meets its contract. Assumes nothing.
 use Rattle.run_length.proofs.Passes.{repeating-start, repeating-more, repeating-end, repeating-none}
 use Rattle.run_length.proofs.repeat.Goals as goal
 

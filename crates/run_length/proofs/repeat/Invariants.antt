@@ -1,4 +1,4 @@
--- `run_length::repeat` meets its contract: the places before k are stored. Assumes nothing.
+-- What the loop of `run_length::repeat` keeps, and why it ends: the places before k are stored. Assumes nothing.
 use Prim.Native.Nat.{◌-◌}
 use Rattle.run_length.proofs.Passes.{Repeating}
 use Rattle.run_length.proofs.repeat.Given as goal

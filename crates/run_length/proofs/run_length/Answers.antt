@@ -1,10 +1,10 @@
 -- `run_length::run_length` meets its contract. Assumes nothing.
 use mathlib.Core.Path.{refl}
-use Rattle.format.specs.RunLength.{code_refusals, run_length_up_to}
+use Rattle.format.specs.RunLength.{run_length_up_to}
 use Rattle.format.specs.declared.Refusal.TheVariants.{Repeat, Points, Room}
 use Rattle.run_length.proofs.Codes.{coding-clear}
 use Rattle.run_length.proofs.Passes.{refused-code, refused-behind, stored-behind, unrolling-none, unrolling-all}
-use Rattle.laws.specs.First.{Clear, decides, tests, flag_same}
+use Rattle.laws.specs.First.{decides, tests, flag_same}
 use native.Mathlib.Omega.{arith}
 use Rattle.run_length.proofs.run_length.Goals as goal
 
@@ -15,43 +15,28 @@ pub returns-then-is_uncoded : goal.returns-then-is_uncoded
 returns-then-is_uncoded c = refused-code _ _ _ _ _ (c.is_uncoded.ensures.0 c.if-is_uncoded.true)
 
 pub repeats_first-requires : goal.repeats_first-requires
-repeats_first-requires c =
-    let coded : Clear (code_refusals c.args.bits c.args.greatest) = c.is_uncoded.ensures.1 c.if-is_uncoded.false in
-    coding-clear coded
+repeats_first-requires c = coding-clear (c.is_uncoded.ensures.1 c.if-is_uncoded.false)
 
 pub returns-then-repeats_first : goal.returns-then-repeats_first
 unfolding run_length_up_to
-returns-then-repeats_first c =
-    let coded : Clear (code_refusals c.args.bits c.args.greatest) = c.is_uncoded.ensures.1 c.if-is_uncoded.false in
-    decides _ Repeat _ _ (omega (arith, tests, flag_same, coded))
+returns-then-repeats_first c = decides _ Repeat _ _ (omega (arith, tests, flag_same, c.is_uncoded.ensures.1 c.if-is_uncoded.false))
 
 pub returns-then-declared-gt-LIMIT : goal.returns-then-declared-gt-LIMIT
-returns-then-declared-gt-LIMIT c =
-    let coded : Clear (code_refusals c.args.bits c.args.greatest) = c.is_uncoded.ensures.1 c.if-is_uncoded.false in
-    refused-behind _ _ _ _ _ Points refl (omega (arith, tests, flag_same, coded))
+returns-then-declared-gt-LIMIT c = refused-behind _ _ _ _ _ Points refl (omega (arith, tests, flag_same, c.is_uncoded.ensures.1 c.if-is_uncoded.false))
 
 pub unroll-requires : goal.unroll-requires
-unroll-requires c =
-    let coded : Clear (code_refusals c.args.bits c.args.greatest) = c.is_uncoded.ensures.1 c.if-is_uncoded.false in
-    (coding-clear coded, omega arith, omega arith, omega arith)
+unroll-requires c = (coding-clear (c.is_uncoded.ensures.1 c.if-is_uncoded.false), omega arith, omega arith, omega arith)
 
 pub returns-then-unroll-count : goal.returns-then-unroll-count
-returns-then-unroll-count c =
-    let coded : Clear (code_refusals c.args.bits c.args.greatest) = c.is_uncoded.ensures.1 c.if-is_uncoded.false in
-    refused-behind _ _ _ _ _ Points (search unrolling-none) (omega (arith, tests, flag_same, coded))
+returns-then-unroll-count c = refused-behind _ _ _ _ _ Points (search unrolling-none) (omega (arith, tests, flag_same, c.is_uncoded.ensures.1 c.if-is_uncoded.false))
 
 pub returns-then-levels-count : goal.returns-then-levels-count
-returns-then-levels-count c =
-    let coded : Clear (code_refusals c.args.bits c.args.greatest) = c.is_uncoded.ensures.1 c.if-is_uncoded.false in
-    refused-behind _ _ _ _ _ Room (search unrolling-none) (omega (arith, tests, flag_same, coded))
+returns-then-levels-count c = refused-behind _ _ _ _ _ Room (search unrolling-none) (omega (arith, tests, flag_same, c.is_uncoded.ensures.1 c.if-is_uncoded.false))
 
 pub unroll-requires-2 : goal.unroll-requires-2
-unroll-requires-2 c =
-    let coded : Clear (code_refusals c.args.bits c.args.greatest) = c.is_uncoded.ensures.1 c.if-is_uncoded.false in
-    (coding-clear coded, omega arith, omega arith, omega arith)
+unroll-requires-2 c = (coding-clear (c.is_uncoded.ensures.1 c.if-is_uncoded.false), omega arith, omega arith, omega arith)
 
 pub returns : goal.returns
 returns c =
-    let coded : Clear (code_refusals c.args.bits c.args.greatest) = c.is_uncoded.ensures.1 c.if-is_uncoded.false in
     let decided = c.unroll.ensures in
-    stored-behind _ _ _ _ _ (unrolling-all _ decided (omega arith) (omega arith) c.unroll-2.ensures) (omega (arith, tests, flag_same, coded))
+    stored-behind _ _ _ _ _ (unrolling-all _ decided (omega arith) (omega arith) c.unroll-2.ensures) (omega (arith, tests, flag_same, c.is_uncoded.ensures.1 c.if-is_uncoded.false))

@@ -1,4 +1,4 @@
--- `run_length::unroll` meets its contract. Assumes nothing.
+-- What the loop of `run_length::unroll` keeps, and why it ends. Assumes nothing.
 use Prim.Native.Nat.{◌-◌, ◌*◌}
 use lib.ListN.{length}
 use Rattle.run_length.specs.Runs.{place_of}

@@ -1,4 +1,4 @@
--- `runs::digit_count` meets its contract. Assumes nothing.
+-- What the loop of `runs::digit_count` keeps, and why it ends. Assumes nothing.
 use Rattle.runs.proofs.Digits.{DigitsCounted}
 use Rattle.runs.proofs.digit_count.Given as goal
 

@@ -1,4 +1,4 @@
--- `runs::fours_from` meets its contract. Assumes nothing.
+-- What the loop of `runs::fours_from` keeps, and why it ends. Assumes nothing.
 use Prim.Native.Nat.{◌-◌}
 use lib.ListN.{length}
 use Rattle.format.specs.Layout.{levels_in}

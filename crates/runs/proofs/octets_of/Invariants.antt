@@ -1,4 +1,4 @@
--- `runs::octets_of` meets its contract. Assumes nothing.
+-- What the loop of `runs::octets_of` keeps, and why it ends. Assumes nothing.
 use Prim.Native.Nat.{◌-◌}
 use lib.ListN.{length}
 use Rattle.format.specs.Layout.{levels_in}

@@ -1,4 +1,4 @@
--- `runs::put_digits` meets its contract. Assumes nothing.
+-- What the loop of `runs::put_digits` keeps, and why it ends. Assumes nothing.
 use Rattle.runs.specs.Runs.{digit_codes}
 use Rattle.runs.proofs.Putting.{CodesPut}
 use Rattle.runs.proofs.put_digits.Given as goal

@@ -1,4 +1,4 @@
--- `runs::put_repeated` meets its contract. Assumes nothing.
+-- What the loop of `runs::put_repeated` keeps, and why it ends. Assumes nothing.
 use Prim.Native.Nat.{◌-◌}
 use lib.ListN.{replicate}
 use Rattle.runs.proofs.Putting.{CodesPut}

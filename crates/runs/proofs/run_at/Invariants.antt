@@ -1,4 +1,4 @@
--- `runs::run_at` meets its contract. Assumes nothing.
+-- What the loop of `runs::run_at` keeps, and why it ends. Assumes nothing.
 use Prim.Native.Nat.{◌-◌, ◌<◌}
 use lib.ListN.{length}
 use Rattle.format.specs.Layout.{levels_in}

@@ -1,6 +1,4 @@
 -- `runs::write_levels` meets its contract. Assumes nothing.
-use mathlib.Core.List.{List}
-use Prim.Native.Nat.{ℕ}
 use native.Mathlib.Omega.{arith}
 use Rattle.format.specs.Layout.{levels_in}
 use Rattle.format.specs.WritingRunLength.{level_payload}
@@ -9,8 +7,7 @@ use Rattle.runs.proofs.write_levels.Goals as goal
 
 pub returns-then-payload-octets : goal.returns-then-payload-octets
 returns-then-payload-octets c =
-    let payload : List ℕ = level_payload c.args.coding.bits c.args.coding.greatest (levels_in c.args.levels.now) in
-    lent-refused payload _ c.requires.2 c.if-payload-octets.true
+    lent-refused (level_payload c.args.coding.bits c.args.coding.greatest (levels_in c.args.levels.now)) _ c.requires.2 c.if-payload-octets.true
 
 pub put_levels-requires : goal.put_levels-requires
 put_levels-requires c = (c.requires.0, c.requires.1, omega arith)
@@ -20,5 +17,4 @@ finish-requires c = first-ready c.put_levels.ensures (omega arith)
 
 pub returns : goal.returns
 returns c =
-    let payload : List ℕ = level_payload c.args.coding.bits c.args.coding.greatest (levels_in c.args.levels.now) in
-    lent_written payload _ c.requires.2 (omega arith) (first_done c.put_levels.ensures c.finish.ensures)
+    lent_written (level_payload c.args.coding.bits c.args.coding.greatest (levels_in c.args.levels.now)) _ c.requires.2 (omega arith) (first_done c.put_levels.ensures c.finish.ensures)

@@ -1,11 +1,5 @@
 -- `runs::write_run_length` meets its contract. Assumes nothing.
-use Prim.Native.Nat.{◌≤◌}
-use lib.ListN.{length}
 use native.Mathlib.Omega.{arith}
-use Rattle.format.specs.Layout.{levels_in}
-use Rattle.format.specs.Refusals.{limit}
-use Rattle.format.specs.RunLength.{code_refusals}
-use Rattle.laws.specs.First.{Clear}
 use Rattle.runs.proofs.Answer.{refused-code, refused-many, refused-above, span-counted, left-to-room}
 use Rattle.runs.proofs.write_run_length.Goals as goal
 
@@ -22,31 +16,21 @@ pub count_of-requires : goal.count_of-requires
 count_of-requires c = tt
 
 pub returns-then-size-count_of : goal.returns-then-size-count_of
-returns-then-size-count_of c =
-    let coded : Clear (code_refusals c.args.bits c.args.greatest) = c.is_uncoded.ensures.1 c.if-is_uncoded.false in
-    refused-many _ _ _ _ coded (omega (arith, c.count_of.ensures, c.size.ensures))
+returns-then-size-count_of c = refused-many _ _ _ _ (c.is_uncoded.ensures.1 c.if-is_uncoded.false) (omega (arith, c.count_of.ensures, c.size.ensures))
 
 pub coding_of-coding-requires : goal.coding_of-coding-requires
-coding_of-coding-requires c =
-    let coded : Clear (code_refusals c.args.bits c.args.greatest) = c.is_uncoded.ensures.1 c.if-is_uncoded.false in
-    coded
+coding_of-coding-requires c = c.is_uncoded.ensures.1 c.if-is_uncoded.false
 
 pub octets_of-requires : goal.octets_of-requires
-octets_of-requires c =
-    let few : length (levels_in c.args.levels.now) ≤ limit = omega (arith, c.count_of.ensures, c.size.ensures) in
-    (c.coding_of-coding.ensures.2, few)
+octets_of-requires c = (c.coding_of-coding.ensures.2, omega (arith, c.count_of.ensures, c.size.ensures))
 
 pub write_levels-requires : goal.write_levels-requires
 write_levels-requires c = let known = span-counted _ _ _ c.octets_of.ensures c.in-Span.is in (c.coding_of-coding.ensures.2, known.0, known.1)
 
 pub returns-in-Refused : goal.returns-in-Refused
 returns-in-Refused c =
-    let coded : Clear (code_refusals c.args.bits c.args.greatest) = c.is_uncoded.ensures.1 c.if-is_uncoded.false in
-    let few : length (levels_in c.args.levels.now) ≤ limit = omega (arith, c.count_of.ensures, c.size.ensures) in
-    refused-above _ _ _ _ coded few c.coding_of-coding.ensures.0 c.coding_of-coding.ensures.1 c.octets_of.ensures c.in-Refused.is
+    refused-above _ _ _ _ (c.is_uncoded.ensures.1 c.if-is_uncoded.false) (omega (arith, c.count_of.ensures, c.size.ensures)) c.coding_of-coding.ensures.0 c.coding_of-coding.ensures.1 c.octets_of.ensures c.in-Refused.is
 
 pub returns-in-Span : goal.returns-in-Span
 returns-in-Span c =
-    let coded : Clear (code_refusals c.args.bits c.args.greatest) = c.is_uncoded.ensures.1 c.if-is_uncoded.false in
-    let few : length (levels_in c.args.levels.now) ≤ limit = omega (arith, c.count_of.ensures, c.size.ensures) in
-    left-to-room _ _ _ _ coded few c.coding_of-coding.ensures.0 c.coding_of-coding.ensures.1 c.octets_of.ensures c.in-Span.is c.write_levels.ensures
+    left-to-room _ _ _ _ (c.is_uncoded.ensures.1 c.if-is_uncoded.false) (omega (arith, c.count_of.ensures, c.size.ensures)) c.coding_of-coding.ensures.0 c.coding_of-coding.ensures.1 c.octets_of.ensures c.in-Span.is c.write_levels.ensures

@@ -1,4 +1,4 @@
--- `section5::any_too_large` meets its contract: whether one is too large is whether one of those left is. Assumes nothing.
+-- `section5::any_too_large` meets its contract. Assumes nothing.
 use Rattle.section5.proofs.Writing.{searched-none, large-here, large-later, large-none}
 use Rattle.section5.proofs.any_too_large.Goals as goal
 

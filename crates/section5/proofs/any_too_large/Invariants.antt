@@ -1,4 +1,4 @@
--- `section5::any_too_large` meets its contract: whether one is too large is whether one of those left is. Assumes nothing.
+-- What the loop of `section5::any_too_large` keeps, and why it ends: whether one is too large is whether one of those left is. Assumes nothing.
 use Prim.Native.Nat.{◌-◌}
 use Rattle.section5.proofs.Writing.{Searched}
 use Rattle.section5.proofs.any_too_large.Given as goal

@@ -1,4 +1,4 @@
--- `section5::numbers_in` meets its contract: after k turns the numbers of k rows are there. Assumes nothing.
+-- `section5::numbers_in` meets its contract. Assumes nothing.
 use Rattle.section5.proofs.Rows.{filled_none, filled_more, filled-all}
 use Rattle.section5.proofs.numbers_in.Goals as goal
 

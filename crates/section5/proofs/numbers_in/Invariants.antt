@@ -1,4 +1,4 @@
--- `section5::numbers_in` meets its contract: after k turns the numbers of k rows are there. Assumes nothing.
+-- What the loop of `section5::numbers_in` keeps, and why it ends: after k turns the numbers of k rows are there. Assumes nothing.
 use Prim.Native.Nat.{◌-◌}
 use Rattle.section5.proofs.Rows.{Filled}
 use Rattle.section5.proofs.numbers_in.Given as goal

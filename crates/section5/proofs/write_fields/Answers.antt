@@ -1,4 +1,4 @@
--- `section5::write_fields` meets its contract: after k turns k fields are written. Assumes nothing.
+-- `section5::write_fields` meets its contract. Assumes nothing.
 use Rattle.section5.proofs.Writing.{written_none, row_room, written-more, written_all}
 use Rattle.section5.proofs.write_fields.Goals as goal
 

@@ -1,4 +1,4 @@
--- `section5::write_fields` meets its contract: after k turns k fields are written. Assumes nothing.
+-- What the loop of `section5::write_fields` keeps, and why it ends: after k turns k fields are written. Assumes nothing.
 use Prim.Native.Nat.{◌-◌}
 use Rattle.section5.proofs.Writing.{Written}
 use Rattle.section5.proofs.write_fields.Given as goal

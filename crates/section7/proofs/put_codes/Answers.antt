@@ -1,4 +1,4 @@
--- `section7::put_codes` meets its contract. After k turns k codes are put. Assumes nothing.
+-- `section7::put_codes` meets its contract. Assumes nothing.
 use native.Mathlib.Omega.{arith}
 use Rattle.writer.proofs.Pens.{fresh-ready}
 use Rattle.section7.proofs.Puts.{put-start, put-ready, put-more}

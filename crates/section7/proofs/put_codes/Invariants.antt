@@ -1,4 +1,4 @@
--- `section7::put_codes` meets its contract. After k turns k codes are put. Assumes nothing.
+-- What the loop of `section7::put_codes` keeps, and why it ends: after k turns k codes are put. Assumes nothing.
 use Prim.Native.Nat.{◌-◌, ◌*◌}
 use Rattle.laws.specs.Groups.{group_in}
 use Rattle.writer.specs.Pen.{Ready}

@@ -1,4 +1,4 @@
--- `section7::put_group` meets its contract. After k turns k values are put. Assumes nothing.
+-- `section7::put_group` meets its contract. Assumes nothing.
 use native.Mathlib.Omega.{arith}
 use Rattle.section7.proofs.Puts.{put-more}
 use Rattle.section7.proofs.Values.{values-start, values-ready, values-end, value-least, value-narrow, value-is}

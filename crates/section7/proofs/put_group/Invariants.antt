@@ -1,4 +1,4 @@
--- `section7::put_group` meets its contract. After k turns k values are put. Assumes nothing.
+-- What the loop of `section7::put_group` keeps, and why it ends: after k turns k values are put. Assumes nothing.
 use Prim.Native.Nat.{◌+◌, ◌-◌}
 use lib.ListN.{get_or}
 use Rattle.format.specs.Layout.{numbers_in}

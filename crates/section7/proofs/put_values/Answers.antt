@@ -1,4 +1,4 @@
--- `section7::put_values` meets its contract. After k turns the values of k groups are put. Assumes nothing.
+-- `section7::put_values` meets its contract. Assumes nothing.
 use native.Mathlib.Omega.{arith}
 use Rattle.writer.proofs.Pens.{fresh-ready}
 use Rattle.section7.proofs.Values.{group-valued, group-few, group-ready, group-moved, values-none, values-begun}

@@ -1,4 +1,4 @@
--- `section7::put_values` meets its contract. After k turns the values of k groups are put. Assumes nothing.
+-- What the loop of `section7::put_values` keeps, and why it ends: after k turns the values of k groups are put. Assumes nothing.
 use Prim.Native.Nat.{◌-◌, ◌≤◌}
 use Rattle.format.specs.Lists.{total}
 use Rattle.format.specs.Layout.{numbers_in}

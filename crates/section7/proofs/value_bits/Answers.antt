@@ -1,4 +1,4 @@
--- `section7::value_bits` meets its contract. A group has no more values than the limit, of 32 bits at most. Assumes nothing.
+-- `section7::value_bits` meets its contract. Assumes nothing.
 use mathlib.Core.Path.{refl}
 use native.Mathlib.Omega.{arith}
 use Rattle.format.specs.Lists.{total}

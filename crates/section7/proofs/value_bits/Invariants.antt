@@ -1,4 +1,4 @@
--- `section7::value_bits` meets its contract. A group has no more values than the limit, of 32 bits at most. Assumes nothing.
+-- What the loop of `section7::value_bits` keeps, and why it ends: a group has no more values than the limit, of 32 bits at most. Assumes nothing.
 use mathlib.Core.Path.{◌≡◌}
 use Prim.Native.Nat.{◌-◌, ◌*◌, ◌≤◌}
 use Rattle.format.specs.Lists.{total}

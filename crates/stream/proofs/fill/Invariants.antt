@@ -1,4 +1,4 @@
--- `stream::fill` meets its contract. Assumes nothing.
+-- What the loop of `stream::fill` keeps, and why it ends. Assumes nothing.
 use Rattle.stream.proofs.Filling.{Filling}
 use Rattle.stream.proofs.fill.Given as goal
 

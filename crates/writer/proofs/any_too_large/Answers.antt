@@ -1,4 +1,4 @@
--- `writer::any_too_large` meets its contract: whether one is too large is whether one of those left is. Assumes nothing.
+-- `writer::any_too_large` meets its contract. Assumes nothing.
 use mathlib.Core.Path.{refl}
 use Rattle.writer.proofs.Jobs.{large-here, large-later, large-none}
 use native.Mathlib.Omega.{arith}

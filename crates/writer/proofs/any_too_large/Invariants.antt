@@ -1,4 +1,4 @@
--- `writer::any_too_large` meets its contract: whether one is too large is whether one of those left is. Assumes nothing.
+-- What the loop of `writer::any_too_large` keeps, and why it ends: whether one is too large is whether one of those left is. Assumes nothing.
 use mathlib.Core.Path.{◌≡◌}
 use Prim.Native.Nat.{◌≤◌, ◌-◌, ◌^◌}
 use lib.Dec.{leb}

@@ -1,4 +1,4 @@
--- `writer::put` meets its contract: each turn sends an octet out. Assumes nothing.
+-- `writer::put` meets its contract. Assumes nothing.
 use Prim.Native.Nat.{◌≤◌}
 use lib.Pow.{pow_mono}
 use Rattle.writer.proofs.Pens.{ready-small, emitting-start, emitting-more, emitting-end}

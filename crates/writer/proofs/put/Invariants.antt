@@ -1,4 +1,4 @@
--- `writer::put` meets its contract: each turn sends an octet out. Assumes nothing.
+-- What the loop of `writer::put` keeps, and why it ends: each turn sends an octet out. Assumes nothing.
 use Rattle.writer.proofs.Pens.{Emitting}
 use Rattle.writer.proofs.put.Given as goal
 

@@ -1,4 +1,4 @@
--- `writer::put_all` meets its contract: after k turns k numbers are written. Assumes nothing.
+-- `writer::put_all` meets its contract. Assumes nothing.
 use Rattle.writer.proofs.Jobs.{none-moved, number-ready, number_fits, number-moved, all_moved}
 use native.Mathlib.Omega.{arith}
 use Rattle.writer.proofs.put_all.Goals as goal

@@ -1,4 +1,4 @@
--- `writer::put_all` meets its contract: after k turns k numbers are written. Assumes nothing.
+-- What the loop of `writer::put_all` keeps, and why it ends: after k turns k numbers are written. Assumes nothing.
 use Prim.Native.Nat.{◌≤◌, ◌-◌}
 use lib.ListN.{length, take}
 use Rattle.format.specs.Bits.{string_of}
