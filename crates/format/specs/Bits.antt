@@ -4,10 +4,10 @@ use Rattle.std.specs.Prelude.{ℕ, zero, suc, ◌+◌, ◌-◌, ◌*◌, ◌/◌
 use Rattle.format.specs.Lists.{listed, any_of, ◌over◌}
 use Rattle.format.specs.Refusals.{Row, ◌gives◌, first, Left, left}
 use Rattle.format.specs.declared.Refusal.TheVariants.{Width, Short, Room, Numbers}
-use Rattle.format.specs.declared.Fetched.{Fetched}
-use Rattle.format.specs.declared.Fetched.TheVariants as fetched
-use Rattle.format.specs.declared.Stored.{Stored}
-use Rattle.format.specs.declared.Stored.TheVariants as stored
+use Rattle.format.specs.declared.Refusal.{Refusal}
+use Rattle.format.specs.declared.OctetPlace.{OctetPlace}
+use Rattle.std.specs.declared.result.Result.{Result}
+use Rattle.std.specs.declared.result.Result.TheVariants.{Ok, Err}
 
 -- "Numbers of one width stand end to end, most significant bit first.": bit i of the numbers xs of width w
 unfoldable pub bit_in : ℕ → List ℕ → ℕ → ℕ
@@ -75,10 +75,10 @@ read_refusals octets s w n lent =
     ∷ []
 
 -- n numbers of width w from bit s of the octets on, read into the lent numbers
-unfoldable pub read_field : List ℕ → ℕ → ℕ → ℕ → List ℕ → Left Fetched
+unfoldable pub read_field : List ℕ → ℕ → ℕ → ℕ → List ℕ → Left (Result (Unit {0}) Refusal)
 read_field octets s w n lent =
-    first (λ r. left (fetched.Refused r) lent) (read_refusals octets s w n lent)
-    (left fetched.Done (field_of octets s w n over lent))
+    first (λ r. left (Err r) lent) (read_refusals octets s w n lent)
+    (left (Ok tt) (field_of octets s w n over lent))
 
 -- "Bit writer: 5, 13, 10."
 -- "Writing takes widths 1 to 32; each number must fit its width."
@@ -92,7 +92,7 @@ write_refusals xs s w lent =
     ∷ []
 
 -- "It answers its span.": xs, written at width w from bit s of the lent octets on
-unfoldable pub write_field : List ℕ → ℕ → ℕ → List ℕ → Left Stored
+unfoldable pub write_field : List ℕ → ℕ → ℕ → List ℕ → Left (Result OctetPlace Refusal)
 write_field xs s w lent =
-    first (λ r. left (stored.Refused r) lent) (write_refusals xs s w lent)
-    (left (stored.Span (record { 0 = span_of s w (length xs) })) (written [] lent s w xs))
+    first (λ r. left (Err r) lent) (write_refusals xs s w lent)
+    (left (Ok (record { 0 = span_of s w (length xs) })) (written [] lent s w xs))

@@ -18,6 +18,7 @@ use Rattle.format.specs.Layout.{group_size, in_fours}
 use Rattle.format.specs.Template.{template_by}
 use Rattle.format.specs.declared.DecodedValue.TheVariants.{Missing1, Missing2}
 use Rattle.format.specs.declared.Named.TheVariants as named
+use Rattle.std.specs.declared.result.Result.TheVariants.{Ok}
 
 -- The maps of two of these with their Section 5, octet by octet, and its fields: under 5.2 BC 80 40 with management 1, under 5.3
 -- 0A 82 0C 50. Reference value 10.0, scales −1 and 2, field type 1.
@@ -111,7 +112,7 @@ all_hold = refl
 
 -- document 02, No. 1: where Section 5 has each number that unpacking takes
 pub places-named : named_by places53
-    ≡ named.Spatial 0x06070809 (template_by 20 22 23 0x20212223 36 37 0x26272829 42 0x2B2C2D2E 47) (record { order = 48; octets = 49 })
+    ≡ Ok (named.Spatial 0x06070809 (template_by 20 22 23 0x20212223 36 37 0x26272829 42 0x2B2C2D2E 47) (record { order = 48; octets = 49 }))
 unfolding first listed bit_in number_of table section_size at wrong_head named_by
 places-named = refl
 

@@ -13,8 +13,9 @@ use Rattle.format.specs.declared.Differencing.{Differencing}
 use Rattle.format.specs.declared.Located.{Located}
 use Rattle.format.specs.declared.DecodedValue.{DecodedValue}
 use Rattle.format.specs.declared.DecodedValue.TheVariants.{Normal, Missing1, Missing2}
-use Rattle.format.specs.declared.Unpacked.{Unpacked}
-use Rattle.format.specs.declared.Unpacked.TheVariants as unpacked
+use Rattle.format.specs.declared.Refusal.{Refusal}
+use Rattle.std.specs.declared.result.Result.{Result}
+use Rattle.std.specs.declared.result.Result.TheVariants.{Ok, Err}
 
 -- "descriptors are as many first values as the order says, unsigned, then the overall minimum with a leading sign bit and
 -- magnitude (minus zero is zero). Each takes the stated 1 to 4 octets."
@@ -80,7 +81,7 @@ abbrev pub described_refusals : Template → Differencing → ℕ → List Row
 described_refusals t d octets = order_refusals d ++ kind_refusals t ++ descriptor_refusals d ++ descriptors_short d octets
 
 -- "then from 6 on as for 5.2", as far as 7 for the values
-unfoldable pub locate53 : Template → Differencing → List ℕ → Located
+unfoldable pub locate53 : Template → Differencing → List ℕ → Result Located Refusal
 locate53 t d payload =
     let start = descriptors_end d in
     let codes = codes_of start t payload in
@@ -93,14 +94,14 @@ refusals53 t d declared octets codes lent =
     ++ room_refusals point_size lent declared
 
 -- "12 last.": "12 leaves number 0 and mark 0 in the declared places"
-unfoldable pub left53 : ℕ → List DecodedValue → List ℕ → Left Unpacked
+unfoldable pub left53 : ℕ → List DecodedValue → List ℕ → Left (Result ℕ Refusal)
 left53 declared points lent =
-    first (λ r. left (unpacked.Refused r) (flat_map point_octets (replicate declared (Normal (pos 0))) over lent))
+    first (λ r. left (Err r) (flat_map point_octets (replicate declared (Normal (pos 0))) over lent))
     (any_of beyond points gives Beyond ∷ [])
-    (left (unpacked.Points declared) (flat_map point_octets points over lent))
+    (left (Ok declared) (flat_map point_octets points over lent))
 
-unfoldable pub unpack53 : Template → Differencing → ℕ → List ℕ → List ℕ → Left Unpacked
+unfoldable pub unpack53 : Template → Differencing → ℕ → List ℕ → List ℕ → Left (Result ℕ Refusal)
 unpack53 t d declared payload lent =
     let said = said_by (descriptors_end d) t payload in
-    first (λ r. left (unpacked.Refused r) lent) (refusals53 t d declared (length payload) said.codes lent)
+    first (λ r. left (Err r) lent) (refusals53 t d declared (length payload) said.codes lent)
     (left53 declared (points53 t d.order (descriptors_of d payload) said) lent)

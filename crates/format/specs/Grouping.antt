@@ -6,8 +6,9 @@ use Rattle.format.specs.Layout.{numbers_per_group, group_numbers}
 use Rattle.format.specs.Refusals.{Row, ◌gives◌, first, limit, room_refusals, Left, left}
 use Rattle.format.specs.declared.Refusal.TheVariants.{Numbers}
 use Rattle.format.specs.declared.Group.{Group}
-use Rattle.format.specs.declared.Grouped.{Grouped}
-use Rattle.format.specs.declared.Grouped.TheVariants as grouped
+use Rattle.format.specs.declared.Refusal.{Refusal}
+use Rattle.std.specs.declared.result.Result.{Result}
+use Rattle.std.specs.declared.result.Result.TheVariants.{Ok, Err}
 
 -- "Let bits(x) be the count of binary digits of x, 0 for 0.": the first number bounds the halvings
 unfoldable pub digits_in : ℕ → ℕ → ℕ
@@ -72,13 +73,13 @@ number_refusals k numbers =
 
 -- "The groups go to a lent list of groups", which holds `size` numbers or octets a group. "10 for the group list leaves the
 -- first groups in all lent slots": as many groups are left as it has slots for
-abbrev pub groups_lent : (Group → List ℕ) → ℕ → List Group → List ℕ → Left Grouped
+abbrev pub groups_lent : (Group → List ℕ) → ℕ → List Group → List ℕ → Left (Result ℕ Refusal)
 groups_lent stored size groups lent =
-    left (first grouped.Refused (room_refusals size lent (length groups)) (grouped.Groups (length groups)))
+    left (first Err (room_refusals size lent (length groups)) (Ok (length groups)))
     (flat_map stored (take (whole_ones size lent) groups) over lent)
 
 -- the groups of a list, in lent slots of four numbers each
-unfoldable pub group_numbers_of : ℕ → List ℕ → List ℕ → Left Grouped
+unfoldable pub group_numbers_of : ℕ → List ℕ → List ℕ → Left (Result ℕ Refusal)
 group_numbers_of k numbers lent =
-    first (λ r. left (grouped.Refused r) lent) (number_refusals k numbers)
+    first (λ r. left (Err r) lent) (number_refusals k numbers)
     (groups_lent group_numbers numbers_per_group (records_from 0 (groups01 k numbers)) lent)

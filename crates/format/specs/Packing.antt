@@ -13,7 +13,9 @@ use Rattle.format.specs.declared.Lengths.{Lengths}
 use Rattle.format.specs.declared.Widths.{Widths}
 use Rattle.format.specs.declared.Group.{Group}
 use Rattle.format.specs.declared.Packed.{Packed}
-use Rattle.format.specs.declared.Packed.TheVariants as packed
+use Rattle.format.specs.declared.Refusal.{Refusal}
+use Rattle.std.specs.declared.result.Result.{Result}
+use Rattle.std.specs.declared.result.Result.TheVariants.{Ok, Err}
 
 -- ---- template numbers
 
@@ -122,7 +124,7 @@ summary_size = 40
 
 -- what packing comes to: its answer, and what was lent, as it is left
 pub record LeftPacked : Type 0 where
-  pub answer : Packed
+  pub answer : Result Packed Refusal
   pub groups : List ℕ
   pub payload : List ℕ
   pub summary : List ℕ
@@ -134,12 +136,12 @@ unfoldable pub pack_by : ℕ → ℕ → List ℕ → List ℕ → List ℕ → 
 pack_by added k numbers groups payload summary =
     let p = packing_of numbers (groups_of width_of added k numbers) in
     let stored = (groups_lent group_octets group_size p.records groups).buffer in
-    first (λ r. record { answer = packed.Refused r; groups = groups; payload = payload; summary = summary })
+    first (λ r. record { answer = Err r; groups = groups; payload = payload; summary = summary })
     (number_refusals k numbers ++ (ltb (length summary) summary_size gives Room ∷ []))
-    (first (λ r. record { answer = packed.Refused r; groups = stored; payload = payload; summary = summary })
+    (first (λ r. record { answer = Err r; groups = stored; payload = payload; summary = summary })
     (room_refusals group_size groups (length p.records) ++ (ltb (length payload) (length p.payload) gives Room ∷ []))
     (record {
-      answer = packed.Payload p.template (record { 0 = length p.payload });
+      answer = Ok (record { template = p.template; octets = record { 0 = length p.payload } });
       groups = stored;
       payload = p.payload over payload;
       summary = in_fours (summary_numbers p.template (length p.records) (length p.payload)) over summary;

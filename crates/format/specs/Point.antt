@@ -8,8 +8,10 @@ use Rattle.format.specs.declared.Template.{Template}
 use Rattle.format.specs.declared.DecodedValue.TheVariants.{Missing1}
 use Rattle.format.specs.declared.Named.{Named}
 use Rattle.format.specs.declared.Named.TheVariants as named
-use Rattle.format.specs.declared.Picked.{Picked}
-use Rattle.format.specs.declared.Picked.TheVariants as picked
+use Rattle.format.specs.declared.Refusal.{Refusal}
+use Rattle.format.specs.declared.DecodedValue.{DecodedValue}
+use Rattle.std.specs.declared.result.Result.{Result}
+use Rattle.std.specs.declared.result.Result.TheVariants.{Ok, Err}
 
 -- "15 when the place is not below the declared count"
 abbrev pub place_refusals : ℕ → ℕ → List Row
@@ -23,16 +25,16 @@ point_refusals place t declared payload = counted52 t declared (length payload) 
 
 -- "For template 5.2, answer one point (mark and number) from its place in the list. With room enough for the map, the answer equals
 -- that place in the full unpacking": of the points that `unpack52` gives. Where none refuses, there is one at the place.
-unfoldable pub point52 : ℕ → Template → ℕ → List ℕ → Picked
+unfoldable pub point52 : ℕ → Template → ℕ → List ℕ → Result DecodedValue Refusal
 point52 place t declared payload =
-    first picked.Refused (point_refusals place t declared payload)
-    (picked.Point (get_or (points_up_to t (said_by 0 t payload) t.groups) place Missing1))
+    first Err (point_refusals place t declared payload)
+    (Ok (get_or (points_up_to t (said_by 0 t payload) t.groups) place Missing1))
 
 -- by the octets of Section 5, as in No. 1. One of template 5.3 is none of 5.2: 14
-abbrev pub point_named : ℕ → Named → List ℕ → Picked
-point_named place (named.Complex declared t) payload = point52 place t declared payload
-point_named place (named.Spatial declared t d) payload = picked.Refused Section5
-point_named place (named.Refused r) payload = picked.Refused r
+abbrev pub point_named : ℕ → Result Named Refusal → List ℕ → Result DecodedValue Refusal
+point_named place (Ok (named.Complex declared t)) payload = point52 place t declared payload
+point_named place (Ok (named.Spatial declared t d)) payload = Err Section5
+point_named place (Err r) payload = Err r
 
-abbrev pub point_section5 : ℕ → List ℕ → List ℕ → Picked
+abbrev pub point_section5 : ℕ → List ℕ → List ℕ → Result DecodedValue Refusal
 point_section5 place section5 payload = point_named place (named_by section5) payload

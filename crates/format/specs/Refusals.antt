@@ -3,22 +3,8 @@ use Rattle.std.specs.Prelude.{ℕ, Bool, true, false, not, List, [], ◌∷◌, 
 use Rattle.format.specs.Lists.{whole_ones}
 use Rattle.format.specs.declared.Refusal.{Refusal}
 use Rattle.format.specs.declared.Refusal.TheVariants.{Splitting, Management, Order, Descriptors, Width, GroupCount, Short, GroupSize, Points, Room, Repeat, Beyond, Numbers, Section5, Place}
-use Rattle.format.specs.declared.Fetched.{Fetched}
-use Rattle.format.specs.declared.Fetched.TheVariants as fetched
-use Rattle.format.specs.declared.Stored.{Stored}
-use Rattle.format.specs.declared.Stored.TheVariants as stored
-use Rattle.format.specs.declared.Located.{Located}
-use Rattle.format.specs.declared.Located.TheVariants as located
-use Rattle.format.specs.declared.Unpacked.{Unpacked}
-use Rattle.format.specs.declared.Unpacked.TheVariants as unpacked
-use Rattle.format.specs.declared.Picked.{Picked}
-use Rattle.format.specs.declared.Picked.TheVariants as picked
-use Rattle.format.specs.declared.Unrolled.{Unrolled}
-use Rattle.format.specs.declared.Unrolled.TheVariants as unrolled
-use Rattle.format.specs.declared.Grouped.{Grouped}
-use Rattle.format.specs.declared.Grouped.TheVariants as grouped
-use Rattle.format.specs.declared.Packed.{Packed}
-use Rattle.format.specs.declared.Packed.TheVariants as packed
+use Rattle.std.specs.declared.result.Result.{Result}
+use Rattle.std.specs.declared.result.Result.TheVariants.{Ok, Err}
 
 -- "No."
 abbrev pub refusal_number : Refusal → ℕ
@@ -67,37 +53,9 @@ room_refusals size lent n =
     ∷ []
 
 -- "The call returns the refusal's number, or 0."
-abbrev pub fetched_number : Fetched → ℕ
-fetched_number fetched.Done = 0
-fetched_number (fetched.Refused r) = refusal_number r
-
-abbrev pub stored_number : Stored → ℕ
-stored_number (stored.Span octets) = 0
-stored_number (stored.Refused r) = refusal_number r
-
-abbrev pub located_number : Located → ℕ
-located_number (located.At places points) = 0
-located_number (located.Refused r) = refusal_number r
-
-abbrev pub unpacked_number : Unpacked → ℕ
-unpacked_number (unpacked.Points count) = 0
-unpacked_number (unpacked.Refused r) = refusal_number r
-
-abbrev pub picked_number : Picked → ℕ
-picked_number (picked.Point point) = 0
-picked_number (picked.Refused r) = refusal_number r
-
-abbrev pub unrolled_number : Unrolled → ℕ
-unrolled_number (unrolled.Levels count) = 0
-unrolled_number (unrolled.Refused r) = refusal_number r
-
-abbrev pub grouped_number : Grouped → ℕ
-grouped_number (grouped.Groups count) = 0
-grouped_number (grouped.Refused r) = refusal_number r
-
-abbrev pub packed_number : Packed → ℕ
-packed_number (packed.Payload template octets) = 0
-packed_number (packed.Refused r) = refusal_number r
+abbrev pub answer_number : {A : Type 0} → Result A Refusal → ℕ
+answer_number (Ok a) = 0
+answer_number (Err r) = refusal_number r
 
 -- what an operation comes to: its answer, and the buffer that was lent, as it is left
 pub record Left (Answer : Type 0) : Type 0 where

@@ -6,8 +6,9 @@ use Rattle.format.specs.Bits.{number_at, field_of}
 use Rattle.format.specs.Layout.{level_size, level_octets}
 use Rattle.format.specs.Refusals.{Row, ◌gives◌, first, count_refusals, room_refusals, Left, left}
 use Rattle.format.specs.declared.Refusal.TheVariants.{Width, Repeat}
-use Rattle.format.specs.declared.Unrolled.{Unrolled}
-use Rattle.format.specs.declared.Unrolled.TheVariants as unrolled
+use Rattle.format.specs.declared.Refusal.{Refusal}
+use Rattle.std.specs.declared.result.Result.{Result}
+use Rattle.std.specs.declared.result.Result.TheVariants.{Ok, Err}
 
 -- "All whole codes in the payload are read; fewer than b bits at the end are ignored.": how many whole ones there are
 abbrev pub whole_codes : ℕ → List ℕ → ℕ
@@ -72,10 +73,10 @@ run_length_refusals b M declared payload n lent =
     ++ count_refusals (length (levels_up_to b M payload n)) declared
     ++ room_refusals level_size lent declared
 
-unfoldable pub run_length_up_to : ℕ → ℕ → ℕ → List ℕ → ℕ → List ℕ → Left Unrolled
+unfoldable pub run_length_up_to : ℕ → ℕ → ℕ → List ℕ → ℕ → List ℕ → Left (Result ℕ Refusal)
 run_length_up_to b M declared payload n lent =
-    first (λ r. left (unrolled.Refused r) lent) (run_length_refusals b M declared payload n lent)
-    (left (unrolled.Levels declared) (flat_map level_octets (levels_up_to b M payload n) over lent))
+    first (λ r. left (Err r) lent) (run_length_refusals b M declared payload n lent)
+    (left (Ok declared) (flat_map level_octets (levels_up_to b M payload n) over lent))
 
-abbrev pub run_length : ℕ → ℕ → ℕ → List ℕ → List ℕ → Left Unrolled
+abbrev pub run_length : ℕ → ℕ → ℕ → List ℕ → List ℕ → Left (Result ℕ Refusal)
 run_length b M declared payload lent = run_length_up_to b M declared payload (codes_read b M declared payload) lent

@@ -13,14 +13,12 @@ use Rattle.format.specs.declared.Row.{Row}
 use Rattle.format.specs.declared.Head.{Head}
 use Rattle.format.specs.declared.Template.{Template}
 use Rattle.format.specs.declared.Differencing.{Differencing}
-use Rattle.format.specs.declared.Fetched.{Fetched}
-use Rattle.format.specs.declared.Fetched.TheVariants as fetched
-use Rattle.format.specs.declared.Stored.{Stored}
-use Rattle.format.specs.declared.Stored.TheVariants as stored
 use Rattle.format.specs.declared.Named.{Named}
 use Rattle.format.specs.declared.Named.TheVariants as named
-use Rattle.format.specs.declared.Unpacked.{Unpacked}
-use Rattle.format.specs.declared.Unpacked.TheVariants as unpacked
+use Rattle.format.specs.declared.Refusal.{Refusal}
+use Rattle.format.specs.declared.OctetPlace.{OctetPlace}
+use Rattle.std.specs.declared.result.Result.{Result}
+use Rattle.std.specs.declared.result.Result.TheVariants.{Ok, Err}
 
 -- ---- the table
 
@@ -153,35 +151,35 @@ field_refusals fields size lent =
 -- ---- reading, writing, unpacking
 
 -- The fields go to lent octets, four a number (112). "A lent output that is too small is 10."
-unfoldable pub read_section5 : List ℕ → List ℕ → Left Fetched
+unfoldable pub read_section5 : List ℕ → List ℕ → Left (Result (Unit {0}) Refusal)
 read_section5 section5 lent =
     let head = head_of (fields_in table section5) in
-    first (λ r. left (fetched.Refused r) lent)
+    first (λ r. left (Err r) lent)
     (head_refusals (length section5) (section_size head.template) head
     ++ room_refusals number_size lent (field_count head.template))
-    (left fetched.Done (in_fours (numbers_of (fields_in (rows_of head.template) section5)) over lent))
+    (left (Ok tt) (in_fours (numbers_of (fields_in (rows_of head.template) section5)) over lent))
 
 -- The fields are numbers, one a row; fewer than the template has rows are 14 too (112). It answers the octets written.
-unfoldable pub write_section5 : List ℕ → List ℕ → Left Stored
+unfoldable pub write_section5 : List ℕ → List ℕ → Left (Result OctetPlace Refusal)
 write_section5 numbers lent =
     let head = head_of (fields_of table numbers) in
     let fields = fields_of (rows_of head.template) numbers in
     let size = section_size head.template in
-    first (λ r. left (stored.Refused r) lent)
+    first (λ r. left (Err r) lent)
     (head_refusals (length numbers) (field_count head.template) head ++ field_refusals fields size lent)
-    (left (stored.Span (record { 0 = size })) (laid fields lent))
+    (left (Ok (record { 0 = size })) (laid fields lent))
 
 -- "typing template numbers out of it breeds mistakes": what Section 5 names, and unpacking by it, an addition (118)
-unfoldable pub named_by : List ℕ → Named
+unfoldable pub named_by : List ℕ → Result Named Refusal
 named_by section5 =
     let fields = fields_in table section5 in
     let head = head_of fields in
-    first named.Refused (head_refusals (length section5) (section_size head.template) head) (named_of fields)
+    first Err (head_refusals (length section5) (section_size head.template) head) (Ok (named_of fields))
 
-abbrev pub unpack_named : Named → List ℕ → List ℕ → Left Unpacked
-unpack_named (named.Complex declared t) payload lent = unpack52 t declared payload lent
-unpack_named (named.Spatial declared t d) payload lent = unpack53 t d declared payload lent
-unpack_named (named.Refused r) payload lent = left (unpacked.Refused r) lent
+abbrev pub unpack_named : Result Named Refusal → List ℕ → List ℕ → Left (Result ℕ Refusal)
+unpack_named (Ok (named.Complex declared t)) payload lent = unpack52 t declared payload lent
+unpack_named (Ok (named.Spatial declared t d)) payload lent = unpack53 t d declared payload lent
+unpack_named (Err r) payload lent = left (Err r) lent
 
-abbrev pub unpack_section5 : List ℕ → List ℕ → List ℕ → Left Unpacked
+abbrev pub unpack_section5 : List ℕ → List ℕ → List ℕ → Left (Result ℕ Refusal)
 unpack_section5 section5 payload lent = unpack_named (named_by section5) payload lent

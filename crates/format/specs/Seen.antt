@@ -1,7 +1,7 @@
 -- What an operation shows: its number, what it answers, and the buffers that it leaves. Assumes nothing.
 use Rattle.std.specs.Prelude.{ℕ, ◌*◌, ◌≡◌, length, replicate, pos}
 use mathlib.Core.List.{List, [], ◌∷◌, ◌++◌, map, flat_map}
-use Rattle.format.specs.Refusals.{Left, fetched_number, stored_number, located_number, unpacked_number, picked_number, unrolled_number, grouped_number, packed_number}
+use Rattle.format.specs.Refusals.{Left, refusal_number, answer_number}
 use Rattle.format.specs.Bits.{read_field, write_field}
 use Rattle.format.specs.Layout.{point_size, point_octets, mark_of, held_by, twos_complement, level_size, level_octets, group_size, in_fours}
 use Rattle.format.specs.Template.{template_numbers, template_by}
@@ -16,20 +16,12 @@ use Rattle.format.specs.Packing.{Packing, missing_value, summary_size, pack}
 use Rattle.format.specs.declared.Template.{Template}
 use Rattle.format.specs.declared.DecodedValue.{DecodedValue}
 use Rattle.format.specs.declared.DecodedValue.TheVariants.{Normal}
-use Rattle.format.specs.declared.Stored.{Stored}
-use Rattle.format.specs.declared.Stored.TheVariants as stored
 use Rattle.format.specs.declared.Located.{Located}
-use Rattle.format.specs.declared.Located.TheVariants as located
-use Rattle.format.specs.declared.Unpacked.{Unpacked}
-use Rattle.format.specs.declared.Unpacked.TheVariants as unpacked
-use Rattle.format.specs.declared.Picked.{Picked}
-use Rattle.format.specs.declared.Picked.TheVariants as picked
-use Rattle.format.specs.declared.Unrolled.{Unrolled}
-use Rattle.format.specs.declared.Unrolled.TheVariants as unrolled
-use Rattle.format.specs.declared.Grouped.{Grouped}
-use Rattle.format.specs.declared.Grouped.TheVariants as grouped
 use Rattle.format.specs.declared.Packed.{Packed}
-use Rattle.format.specs.declared.Packed.TheVariants as packed
+use Rattle.format.specs.declared.Refusal.{Refusal}
+use Rattle.format.specs.declared.OctetPlace.{OctetPlace}
+use Rattle.std.specs.declared.result.Result.{Result}
+use Rattle.std.specs.declared.result.Result.TheVariants.{Ok, Err}
 
 pub record Seen : Type 0 where
   pub number : ℕ
@@ -96,17 +88,17 @@ packs template payload groups =
 abbrev pub reading_in : List ℕ → ℕ → ℕ → ℕ → ℕ → Seen
 reading_in octets start width count room =
     let r = read_field octets start width count (lent room) in
-    record { number = fetched_number r.answer; answers = []; left = r.buffer ∷ [] }
+    record { number = answer_number r.answer; answers = []; left = r.buffer ∷ [] }
 
 abbrev pub reading : List ℕ → ℕ → ℕ → ℕ → Seen
 reading octets start width count = reading_in octets start width count count
 
-abbrev span_answered : Stored → List ℕ
-span_answered (stored.Span octets) = octets.0 ∷ []
-span_answered (stored.Refused r) = []
+abbrev span_answered : Result OctetPlace Refusal → List ℕ
+span_answered (Ok octets) = octets.0 ∷ []
+span_answered (Err r) = []
 
-abbrev stores : Left Stored → Seen
-stores r = record { number = stored_number r.answer; answers = span_answered r.answer; left = r.buffer ∷ [] }
+abbrev stores : Left (Result OctetPlace Refusal) → Seen
+stores r = record { number = answer_number r.answer; answers = span_answered r.answer; left = r.buffer ∷ [] }
 
 abbrev pub writing : List ℕ → ℕ → ℕ → ℕ → Seen
 writing xs start width octets = stores (write_field xs start width (lent octets))
@@ -115,12 +107,12 @@ writing xs start width octets = stores (write_field xs start width (lent octets)
 abbrev pub template : ℕ → ℕ → ℕ → ℕ → ℕ → ℕ → ℕ → ℕ → ℕ → Template
 template management width = template_by width 1 management
 
-abbrev count_of : Unpacked → List ℕ
-count_of (unpacked.Points count) = count ∷ []
-count_of (unpacked.Refused r) = []
+abbrev count_of : Result ℕ Refusal → List ℕ
+count_of (Ok count) = count ∷ []
+count_of (Err r) = []
 
-abbrev pub unpacks : Left Unpacked → Seen
-unpacks r = record { number = unpacked_number r.answer; answers = count_of r.answer; left = r.buffer ∷ [] }
+abbrev pub unpacks : Left (Result ℕ Refusal) → Seen
+unpacks r = record { number = answer_number r.answer; answers = count_of r.answer; left = r.buffer ∷ [] }
 
 -- in so many lent octets
 abbrev pub unpacking_in : Template → ℕ → List ℕ → ℕ → Seen
@@ -140,7 +132,7 @@ restoring order octets t declared payload = restoring_in order octets t declared
 abbrev pub reading_section5 : List ℕ → ℕ → Seen
 reading_section5 section5 room =
     let r = read_section5 section5 (lent room) in
-    record { number = fetched_number r.answer; answers = []; left = r.buffer ∷ [] }
+    record { number = answer_number r.answer; answers = []; left = r.buffer ∷ [] }
 
 abbrev pub writing_section5 : List ℕ → ℕ → Seen
 writing_section5 numbers room = stores (write_section5 numbers (lent room))
@@ -149,9 +141,9 @@ abbrev pub unpacking_section5 : List ℕ → List ℕ → ℕ → Seen
 unpacking_section5 section5 payload room = unpacks (unpack_section5 section5 payload (lent room))
 
 -- the point at a place of the list
-abbrev pub picks : Picked → Seen
-picks (picked.Point d) = point d
-picks (picked.Refused r) = refused (picked_number (picked.Refused r)) []
+abbrev pub picks : Result DecodedValue Refusal → Seen
+picks (Ok d) = point d
+picks (Err r) = refused (refusal_number r) []
 
 abbrev pub picking : ℕ → Template → ℕ → List ℕ → Seen
 picking place t declared payload = picks (point52 place t declared payload)
@@ -160,17 +152,14 @@ abbrev pub picking_section5 : ℕ → List ℕ → List ℕ → Seen
 picking_section5 place section5 payload = picks (point_section5 place section5 payload)
 
 -- where the parts begin, where the values end, and how many points there are
-abbrev pub locates : Located → Seen
-locates (located.At p points) =
-    answered (p.references.0 ∷ p.widths.0 ∷ p.lengths.0 ∷ p.values.0 ∷ p.end.0 ∷ points ∷ []) []
-locates (located.Refused r) = refused (located_number (located.Refused r)) []
+abbrev pub locates : Result Located Refusal → Seen
+locates (Ok l) =
+    let p = l.places in
+    answered (p.references.0 ∷ p.widths.0 ∷ p.lengths.0 ∷ p.values.0 ∷ p.end.0 ∷ l.points ∷ []) []
+locates (Err r) = refused (refusal_number r) []
 
-abbrev levels_count : Unrolled → List ℕ
-levels_count (unrolled.Levels count) = count ∷ []
-levels_count (unrolled.Refused r) = []
-
-abbrev pub unrolls : Left Unrolled → Seen
-unrolls r = record { number = unrolled_number r.answer; answers = levels_count r.answer; left = r.buffer ∷ [] }
+abbrev pub unrolls : Left (Result ℕ Refusal) → Seen
+unrolls r = record { number = answer_number r.answer; answers = count_of r.answer; left = r.buffer ∷ [] }
 
 abbrev pub unrolling_in : ℕ → ℕ → ℕ → List ℕ → ℕ → Seen
 unrolling_in b M declared payload room = unrolls (run_length b M declared payload (lent room))
@@ -182,19 +171,15 @@ unrolling b M declared payload = unrolling_in b M declared payload (declared * l
 abbrev pub writing_levels : ℕ → ℕ → List ℕ → ℕ → Seen
 writing_levels b M levels room = stores (write_run_length b M levels (lent room))
 
-abbrev group_count : Grouped → List ℕ
-group_count (grouped.Groups count) = count ∷ []
-group_count (grouped.Refused r) = []
-
 -- in so many lent numbers
 abbrev pub grouping : ℕ → List ℕ → ℕ → Seen
 grouping k xs room =
     let r = group_numbers_of k xs (lent room) in
-    record { number = grouped_number r.answer; answers = group_count r.answer; left = r.buffer ∷ [] }
+    record { number = answer_number r.answer; answers = count_of r.answer; left = r.buffer ∷ [] }
 
-abbrev packed_answers : Packed → List ℕ
-packed_answers (packed.Payload t octets) = template_numbers t ++ (octets.0 ∷ [])
-packed_answers (packed.Refused r) = []
+abbrev packed_answers : Result Packed Refusal → List ℕ
+packed_answers (Ok p) = template_numbers p.template ++ (p.octets.0 ∷ [])
+packed_answers (Err r) = []
 
 -- what no call hands over: splitting method, missing management and the missing values
 abbrev pub kind_numbers : Packing → List ℕ
@@ -205,7 +190,7 @@ abbrev pub packing_in : ℕ → List ℕ → ℕ → ℕ → ℕ → Seen
 packing_in k xs g n room =
     let r = pack k xs (lent (g * group_size)) (lent n) (lent room) in
     record {
-      number = packed_number r.answer;
+      number = answer_number r.answer;
       answers = packed_answers r.answer;
       left = r.groups ∷ r.payload ∷ r.summary ∷ [];
     }

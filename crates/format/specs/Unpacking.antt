@@ -13,11 +13,11 @@ use Rattle.format.specs.declared.Places.{Places}
 use Rattle.format.specs.declared.Part.{Part}
 use Rattle.format.specs.declared.Part.TheVariants.{References, Widths, Lengths, Values}
 use Rattle.format.specs.declared.Located.{Located}
-use Rattle.format.specs.declared.Located.TheVariants as located
 use Rattle.format.specs.declared.DecodedValue.{DecodedValue}
 use Rattle.format.specs.declared.DecodedValue.TheVariants.{Normal, Missing1, Missing2}
-use Rattle.format.specs.declared.Unpacked.{Unpacked}
-use Rattle.format.specs.declared.Unpacked.TheVariants as unpacked
+use Rattle.format.specs.declared.Refusal.{Refusal}
+use Rattle.std.specs.declared.result.Result.{Result}
+use Rattle.std.specs.declared.result.Result.TheVariants.{Ok, Err}
 
 -- ---- groups
 
@@ -124,12 +124,12 @@ places_of start t bits = record {
   end = record { 0 = values_at start t + rounded_up bits };
 }
 
-abbrev pub part_of : Part → List ℕ → Located → List ℕ
-part_of References payload (located.At p n) = slice p.references.0 p.widths.0 payload
-part_of Widths payload (located.At p n) = slice p.widths.0 p.lengths.0 payload
-part_of Lengths payload (located.At p n) = slice p.lengths.0 p.values.0 payload
-part_of Values payload (located.At p n) = slice p.values.0 p.end.0 payload
-part_of part payload (located.Refused r) = []
+abbrev pub part_of : Part → List ℕ → Result Located Refusal → List ℕ
+part_of References payload (Ok l) = slice l.places.references.0 l.places.widths.0 payload
+part_of Widths payload (Ok l) = slice l.places.widths.0 l.places.lengths.0 payload
+part_of Lengths payload (Ok l) = slice l.places.lengths.0 l.places.values.0 payload
+part_of Values payload (Ok l) = slice l.places.values.0 l.places.end.0 payload
+part_of part payload (Err r) = []
 
 -- "7 for the group fields", in a payload of so many octets
 abbrev pub fields_short : ℕ → Template → ℕ → List Row
@@ -154,15 +154,15 @@ counted_refusals start t declared octets codes =
     located_refusals start t octets codes ++ count_refusals (points_before t codes t.groups) declared
 
 -- where the parts are, unless one of the rows refuses
-abbrev pub located_by : List Row → ℕ → Template → Codes → Located
+abbrev pub located_by : List Row → ℕ → Template → Codes → Result Located Refusal
 located_by rows start t codes =
-    first located.Refused rows
-    (located.At (places_of start t (bits_before t codes t.groups)) (points_before t codes t.groups))
+    first Err rows
+    (Ok (record { places = places_of start t (bits_before t codes t.groups); points = points_before t codes t.groups }))
 
 -- ---- template 5.2
 
 -- "The refusals are unpacking's as far as 7 for the values."
-unfoldable pub locate52 : Template → List ℕ → Located
+unfoldable pub locate52 : Template → List ℕ → Result Located Refusal
 locate52 t payload =
     let codes = codes_of 0 t payload in
     located_by (kind_refusals t ++ located_refusals 0 t (length payload) codes) 0 t codes
@@ -175,8 +175,8 @@ counted52 t declared octets codes = kind_refusals t ++ counted_refusals 0 t decl
 abbrev pub refusals52 : Template → ℕ → ℕ → Codes → List ℕ → List Row
 refusals52 t declared octets codes lent = counted52 t declared octets codes ++ room_refusals point_size lent declared
 
-unfoldable pub unpack52 : Template → ℕ → List ℕ → List ℕ → Left Unpacked
+unfoldable pub unpack52 : Template → ℕ → List ℕ → List ℕ → Left (Result ℕ Refusal)
 unpack52 t declared payload lent =
     let said = said_by 0 t payload in
-    first (λ r. left (unpacked.Refused r) lent) (refusals52 t declared (length payload) said.codes lent)
-    (left (unpacked.Points declared) (flat_map point_octets (points_up_to t said t.groups) over lent))
+    first (λ r. left (Err r) lent) (refusals52 t declared (length payload) said.codes lent)
+    (left (Ok declared) (flat_map point_octets (points_up_to t said t.groups) over lent))

@@ -7,8 +7,10 @@ use Rattle.format.specs.Refusals.{Row, ◌gives◌, first, limit, Left, left}
 use Rattle.format.specs.RunLength.{base_of, code_refusals}
 use Rattle.format.specs.declared.Refusal.TheVariants.{Room, Numbers}
 use Rattle.format.specs.declared.LevelRun.{LevelRun}
-use Rattle.format.specs.declared.Stored.{Stored}
-use Rattle.format.specs.declared.Stored.TheVariants as stored
+use Rattle.format.specs.declared.Refusal.{Refusal}
+use Rattle.format.specs.declared.OctetPlace.{OctetPlace}
+use Rattle.std.specs.declared.result.Result.{Result}
+use Rattle.std.specs.declared.result.Result.TheVariants.{Ok, Err}
 
 -- "each longest run": those of a level that has stood n times, and of the levels behind it. While the level stays, the run
 -- grows; the others are named once, so that a long run computes
@@ -59,8 +61,8 @@ write_run_length_refusals b M levels lent =
     ∷ [])
 
 -- "no buffer is changed by them". The octets written are the answer
-unfoldable pub write_run_length : ℕ → ℕ → List ℕ → List ℕ → Left Stored
+unfoldable pub write_run_length : ℕ → ℕ → List ℕ → List ℕ → Left (Result OctetPlace Refusal)
 write_run_length b M levels lent =
     let payload = level_payload b M levels in
-    first (λ r. left (stored.Refused r) lent) (write_run_length_refusals b M levels lent)
-    (left (stored.Span (record { 0 = length payload })) (payload over lent))
+    first (λ r. left (Err r) lent) (write_run_length_refusals b M levels lent)
+    (left (Ok (record { 0 = length payload })) (payload over lent))

@@ -4,23 +4,23 @@
 
 // "What each number says": a case for each row of the table, and 14 and 15 of document 02. `refusal_number` of specs/Refusals.antt
 // has the numbers.
-#[derive(Clone, Copy)]
+#[derive(Clone, Copy, Debug, PartialEq, Eq, Hash)]
 pub enum Refusal {
-    Splitting,
-    Management,
-    Order,
-    Descriptors,
-    Width,
-    GroupCount,
-    Short,
-    GroupSize,
-    Points,
-    Room,
-    Repeat,
-    Beyond,
-    Numbers,
-    Section5,
-    Place,
+    Splitting = 1,
+    Management = 2,
+    Order = 3,
+    Descriptors = 4,
+    Width = 5,
+    GroupCount = 6,
+    Short = 7,
+    GroupSize = 8,
+    Points = 9,
+    Room = 10,
+    Repeat = 11,
+    Beyond = 12,
+    Numbers = 13,
+    Section5 = 14,
+    Place = 15,
 }
 
 // "4,194,304": no more groups, points or numbers than that. `limit` of specs/Refusals.antt is the same.
@@ -46,20 +46,6 @@ pub struct BitPlace(pub usize);
 
 #[derive(Clone, Copy)]
 pub struct OctetPlace(pub usize);
-
-// What the bit reader answers.
-#[derive(Clone, Copy)]
-pub enum Fetched {
-    Done,
-    Refused(Refusal),
-}
-
-// What the bit writer answers, and whatever else writes octets: how many it spans.
-#[derive(Clone, Copy)]
-pub enum Stored {
-    Span(OctetPlace),
-    Refused(Refusal),
-}
 
 // The numbers of template 5.2, in Section 5's order: number width, splitting method, missing management, group count, and
 // how group widths and group lengths are coded.
@@ -115,9 +101,9 @@ pub enum Part {
 
 // Where the parts of a payload are, and how many points its groups come to.
 #[derive(Clone, Copy)]
-pub enum Located {
-    At(Places, usize),
-    Refused(Refusal),
+pub struct Located {
+    pub places: Places,
+    pub points: usize,
 }
 
 // A point: a number, or one of the two kinds of missing point.
@@ -126,27 +112,6 @@ pub enum DecodedValue {
     Normal(i64),
     Missing1,
     Missing2,
-}
-
-// What unpacking answers: how many points it wrote.
-#[derive(Clone, Copy)]
-pub enum Unpacked {
-    Points(u32),
-    Refused(Refusal),
-}
-
-// Document 02, No. 3: one point, from its place in the list.
-#[derive(Clone, Copy)]
-pub enum Picked {
-    Point(DecodedValue),
-    Refused(Refusal),
-}
-
-// What run-length answers: how many levels it wrote.
-#[derive(Clone, Copy)]
-pub enum Unrolled {
-    Levels(u32),
-    Refused(Refusal),
 }
 
 // Document 02, No. 5: a run of one level, and its length.
@@ -165,18 +130,11 @@ pub struct Group {
     pub width: u32,
 }
 
-// What grouping answers: how many groups it wrote.
-#[derive(Clone, Copy)]
-pub enum Grouped {
-    Groups(u32),
-    Refused(Refusal),
-}
-
 // What packing answers: the template numbers, the group count among them, and the payload's length.
 #[derive(Clone, Copy)]
-pub enum Packed {
-    Payload(Template, OctetPlace),
-    Refused(Refusal),
+pub struct Packed {
+    pub template: Template,
+    pub octets: OctetPlace,
 }
 
 // Document 02, No. 1: "one row a field with its first octet and size".
@@ -199,5 +157,4 @@ pub struct Head {
 pub enum Named {
     Complex(u32, Template),
     Spatial(u32, Template, Differencing),
-    Refused(Refusal),
 }

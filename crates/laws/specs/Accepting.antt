@@ -12,11 +12,13 @@ use Rattle.format.specs.declared.Template.{Template}
 use Rattle.format.specs.declared.Differencing.{Differencing}
 use Rattle.format.specs.declared.Places.{Places}
 use Rattle.format.specs.declared.Located.{Located}
-use Rattle.format.specs.declared.Located.TheVariants as located
 use Rattle.laws.specs.First.{Clear, passed, clear-front, clear_later, clear-row, among, tests}
 use Rattle.laws.specs.Bits.{product}
 use Rattle.laws.specs.Small.{NoneWrong}
 use Rattle.laws.specs.Spans.{span-aligned}
+use Rattle.format.specs.declared.Refusal.{Refusal}
+use Rattle.std.specs.declared.result.Result.{Result}
+use Rattle.std.specs.declared.result.Result.TheVariants.{Ok, Err}
 
 -- a template that passed 6 and 5
 pub record Passing (t : Template) : Type 0 where
@@ -67,21 +69,21 @@ pub record Found (t : Template) (payload : List ℕ) (places : Places) (points :
   pub end : places.end.0 ≤ length payload
 
 -- where it is not refused
-abbrev pub FoundIn : Template → List ℕ → Located → Type 0
-FoundIn t payload (located.At places points) = Found t payload places points
-FoundIn t payload (located.Refused r) = Unit
+abbrev pub FoundIn : Template → List ℕ → Result Located Refusal → Type 0
+FoundIn t payload (Ok l) = Found t payload l.places l.points
+FoundIn t payload (Err r) = Unit
 
 module _ (t : Template) (payload : List ℕ) where
-  found : (rows : List Row) (start : ℕ) → (Clear rows → start ≤ 12) → (x : Located)
+  found : (rows : List Row) (start : ℕ) → (Clear rows → start ≤ 12) → (x : Result Located Refusal)
       → x ≡ located_by (rows ++ located_refusals start t (length payload) (codes_of start t payload)) start t (codes_of start t payload) → FoundIn t payload x
   unfolding places_of
-  found rows start near (located.At p n) e =
+  found rows start near (Ok l) e =
       let codes = codes_of start t payload in
       let left = located_refusals start t (length payload) codes in
       let places = places_of start t (bits_before t codes t.groups) in
-      let h = passed located.Refused (rows ++ left) (located.At places (points_before t codes t.groups)) e (λ r z. (let d : ◌≡◌ {A = ℕ} 0 1 = cc in omega arith)) in
-      let same : p ≡ places = cc h.1 in
-      let count : n ≡ points_before t codes t.groups = cc h.1 in
+      let h = passed Err (rows ++ left) (Ok (record { places = places; points = points_before t codes t.groups })) e (λ r z. (let d : ◌≡◌ {A = ℕ} 0 1 = cc in omega arith)) in
+      let same : l.places ≡ places = cc h.1 in
+      let count : l.points ≡ points_before t codes t.groups = cc h.1 in
       let clear = clear_later rows left h.0 in
       let passing : Passing t = record { few = omega (arith, tests); width = omega (arith, tests); widths = omega (arith, tests); lengths = omega (arith, tests) } in
       rw same record {
@@ -91,14 +93,14 @@ module _ (t : Template) (payload : List ℕ) where
         values = omega arith;
         end = omega (arith, tests);
       }
-  found rows start near (located.Refused r) e = tt
+  found rows start near (Err r) e = tt
 
-  pub found-52 : {x : Located} → x ≡ locate52 t payload → FoundIn t payload x
+  pub found-52 : {x : Result Located Refusal} → x ≡ locate52 t payload → FoundIn t payload x
   unfolding locate52
   found-52 {x} e = found (kind_refusals t) 0 (λ h. omega arith) x e
 
   -- at most two first values and the minimum, of at most four octets each
-  pub found-53 : (d : Differencing) {x : Located} → x ≡ locate53 t d payload → FoundIn t payload x
+  pub found-53 : (d : Differencing) {x : Result Located Refusal} → x ≡ locate53 t d payload → FoundIn t payload x
   unfolding locate53
   found-53 d {x} e = found (described_refusals t d (length payload)) (descriptors_end d) (λ h. product (suc d.order) d.octets 3 4 (omega (arith, tests)) (omega (arith, tests))) x e
 
