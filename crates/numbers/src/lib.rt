@@ -1,7 +1,7 @@
 // What packing reads: the numbers of a list, their windows, and the numbers of a group.
 #![tactic(auto)]
 
-ghost use Rattle.std.specs.Prelude.{◌≡◌, ◌∷◌, [], ◌-◌, ◌<◌, ◌≤◌, min, max, length, get_or};
+ghost use Rattle.std.specs.Prelude.{◌≡◌, List, ℕ, ◌∷◌, [], ◌-◌, ◌<◌, ◌≤◌, length, get_or};
 ghost use Rattle.format.specs.Lists.{greatest};
 ghost use Rattle.format.specs.Layout.{numbers_in};
 ghost use Rattle.format.specs.Grouping.{bits};
@@ -9,20 +9,65 @@ ghost use Rattle.numbers.specs.Windows.{window_of, widened_by};
 ghost use Rattle.numbers.specs.Records.{coded_number};
 
 use format::Group;
+use std::marker::Model;
 
-// How many numbers a list has. "spare octets short of a whole one are not used"
-pub fn count_of(numbers: &[u8]) -> usize
-    ensures { result ≡ length (numbers_in numbers.now) }
-{
-    numbers.len() / format::NUMBER_SIZE
+// The numbers to pack, as they lie in lent octets, and the greatest of them. Every pass of packing gets its numbers here.
+#[derive(Drop)]
+pub struct Numbers<'a> {
+    octets: &'a [u8],
+    top: u32,
 }
 
-// Number k of the list to pack. Every pass of packing gets its numbers here.
-pub fn number_at(numbers: &[u8], k: usize) -> u32
-    requires { k < length (numbers_in numbers.now) }
-    ensures { result ≡ get_or (numbers_in numbers.now) k 0 }
+// Contracts see the list of the numbers.
+impl<'a> Model for Numbers<'a> {
+    ghost Value = { List ℕ };
+
+    ghost view = { λ n. numbers_in n.octets.now };
+
+    ghost invariant = { λ n. n.top ≡ greatest (numbers_in n.octets.now) };
+}
+
+// The greatest number of a list; 0 of none.
+fn greatest_of(octets: &[u8]) -> u32
+    ensures { result ≡ greatest (numbers_in octets.now) }
 {
-    layout::number_in(numbers, k)
+    let mut greatest = 0;
+    for k in 0..octets.len() / format::NUMBER_SIZE {
+        greatest = greatest.max(layout::number_in(octets, k));
+    }
+    greatest
+}
+
+impl<'a> Numbers<'a> {
+    pub fn of(octets: &'a [u8]) -> Numbers<'a>
+        ensures { result ≡ numbers_in octets.now }
+    {
+        Numbers {
+            octets,
+            top: greatest_of(octets),
+        }
+    }
+
+    // "spare octets short of a whole one are not used"
+    pub fn len(&self) -> usize
+        ensures { result ≡ length self.now }
+    {
+        self.octets.len() / format::NUMBER_SIZE
+    }
+
+    pub fn at(&self, k: usize) -> u32
+        requires { k < length self.now }
+        ensures { result ≡ get_or self.now k 0 }
+    {
+        layout::number_in(self.octets, k)
+    }
+
+    // 0 of none.
+    pub fn greatest(&self) -> u32
+        ensures { result ≡ greatest self.now }
+    {
+        self.top
+    }
 }
 
 // The least and the greatest of some numbers. Every width of packing comes from one.
@@ -32,56 +77,34 @@ pub struct Window {
     pub greatest: u32,
 }
 
-pub fn window_of(number: u32) -> Window
-    ensures { result ≡ window_of (number ∷ []) }
-{
-    Window {
-        least: number,
-        greatest: number,
+impl Window {
+    // Of one number.
+    pub fn of(number: u32) -> Window
+        ensures { result ≡ window_of (number ∷ []) }
+    {
+        Window {
+            least: number,
+            greatest: number,
+        }
     }
-}
 
-fn lesser(a: u32, b: u32) -> u32
-    ensures { result ≡ min a b }
-{
-    if a < b { a } else { b }
-}
-
-fn greater(a: u32, b: u32) -> u32
-    ensures { result ≡ max a b }
-{
-    if a < b { b } else { a }
-}
-
-pub fn widened(window: Window, number: u32) -> Window
-    ensures { result ≡ widened_by window number }
-{
-    Window {
-        least: lesser(window.least, number),
-        greatest: greater(window.greatest, number),
+    // And of one number more.
+    pub fn widened(self, number: u32) -> Window
+        ensures { result ≡ widened_by self number }
+    {
+        Window {
+            least: self.least.min(number),
+            greatest: self.greatest.max(number),
+        }
     }
-}
 
-// "w = bits(max − min)"
-pub fn width(window: Window) -> usize
-    requires { window.least ≤ window.greatest }
-    ensures { (result ≡ bits (window.greatest - window.least)) × (result ≤ 32) }
-{
-    places::size(places::bits(window.greatest - window.least))
-}
-
-// The greatest number of a list; 0 of none.
-pub fn greatest_of(numbers: &[u8]) -> u32
-    ensures { result ≡ greatest (numbers_in numbers.now) }
-{
-    let count = count_of(numbers);
-    let mut r = 0u32;
-    let mut k = 0usize;
-    while k < count {
-        r = greater(r, number_at(numbers, k));
-        k += 1;
+    // "w = bits(max − min)"
+    pub fn width(self) -> usize
+        requires { self.least ≤ self.greatest }
+        ensures { (result ≡ bits (self.greatest - self.least)) × (result ≤ 32) }
+    {
+        places::bits(self.greatest - self.least) as usize
     }
-    r
 }
 
 // The fields of a payload that code a number of each group: its least number, its width, its length.

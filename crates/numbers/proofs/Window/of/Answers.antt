@@ -1,7 +1,7 @@
--- `numbers::window_of` meets its contract. Assumes nothing.
+-- `numbers::Window::of` meets its contract. Assumes nothing.
 use native.Mathlib.Nat.{max-zero}
 use Rattle.format.specs.Lists.{greatest, least}
-use Rattle.numbers.proofs.window_of.Goals as goal
+use Rattle.numbers.proofs.Window.of.Goals as goal
 
 pub returns : goal.returns
 unfolding greatest least
