@@ -1,1 +1,2 @@
+mod Fours
 pub mod Grouping
