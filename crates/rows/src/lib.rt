@@ -3,169 +3,134 @@
 // And the input, as far as the octets reach that are lent for it.
 #![tactic(auto)]
 
-ghost use Rattle.std.specs.Prelude.{ℕ, ◌<◌, ◌≤◌, IfOk, OnErr, length, take};
+ghost use Rattle.std.specs.Prelude.{◌≡◌, ℕ, ◌<◌, ◌≤◌, IfOk, OnErr, length, take};
 ghost use Rattle.std.specs.Io.KnownBytes.{Consumes, IsAtEnd};
 
 use std::io;
 use std::io::Read;
 
-// What a digit says, or 16 where a character is none.
-fn digit(character: u8) -> u8 {
+// What a digit of base 16 says. `to_digit` takes small letters too, and a row has none.
+fn digit(character: u8) -> Option<u8> {
     match character {
-        48..=57 => character - 48,
-        65..=70 => character - 55,
-        _ => 16,
+        b'0'..=b'9' => Some(character - b'0'),
+        b'A'..=b'F' => Some(character - b'A' + 10),
+        _ => None,
     }
 }
 
 // A number with one more decimal digit behind it. What is no such digit changes nothing.
 fn longer(number: u32, character: u8) -> u32 {
-    let digit = digit(character);
-    if 9 < digit {
-        return number;
+    match char::from(character).to_digit(10) {
+        Some(digit) => number.wrapping_mul(10).wrapping_add(digit),
+        None => number,
     }
-    (((number as u64) * 10 + (digit as u64)) % 4294967296) as u32
 }
 
-// Which of sixteen places a character belongs to: a space begins the next one.
-fn place_of(character: u8, k: usize) -> usize
-    requires { k ≤ 15 }
-    ensures { result ≤ 15 }
-{
-    if character != b' ' {
-        return k;
-    }
-    if k < 15 { k + 1 } else { k }
-}
-
-// The numbers of a row, the first of them at place 1; at 0, where the word stands, is 0.
+// The numbers of a row, the first of them at place 1; at 0, where the word stands, is 0. A space begins the next of the
+// sixteen places.
 pub fn numbers_in(row: &[u8]) -> [u32; 16] {
     let mut numbers = [0u32; 16];
     let mut k = 0usize;
-    for character in row {
-        if *character == b'|' {
-            return numbers;
+    for character in row.iter().take_while(|character| **character != b'|') {
+        if *character == b' ' {
+            k = (k + 1).min(15);
         }
-        k = place_of(*character, k);
         numbers[k] = longer(numbers[k], *character);
     }
     numbers
 }
 
 // What the next character of a row can be part of.
-const NOTHING: u8 = 0;
-
-const FIRST_HALF: u8 = 1;
-
-const SECOND_HALF: u8 = 2;
-
-const COUNT: u8 = 3;
-
-// The octet that is next, the one that the word began with, and how far it goes on.
 #[derive(Clone, Copy)]
-pub struct Reading {
-    pub part: u8,
-    pub at: usize,
-    pub word: usize,
-    pub end: u32,
+enum Part {
+    Nothing,
+    FirstHalf,
+    SecondHalf,
+    Count(u32),
 }
 
-// A word that begins at an octet.
-fn word_at(at: usize) -> Reading
-    ensures { (result.at ≤ at) × (result.word ≤ result.at) }
-{
-    Reading {
-        part: FIRST_HALF,
-        at,
-        word: at,
-        end: 0,
+// The lent octets as a row fills them, the one that the word began with, and the one that is next. By `ghost_name` each function
+// says that the octets are still the lent ones.
+#[derive(Drop)]
+struct Reading<'a> {
+    octets: &'a mut [u8],
+    part: Part,
+    word: usize,
+    at: usize,
+    ghost word_before: { word ≤ at },
+    ghost in_octets: { at ≤ length octets.now },
+}
+
+impl Reading<'_> {
+    // A word that begins at an octet.
+    fn begin_word(&mut self, at: usize)
+        requires { at ≤ length self.old.octets.now }
+        ensures { self.new.octets.ghost_name ≡ self.old.octets.ghost_name }
+    {
+        self.part = Part::FirstHalf;
+        self.word = at;
+        self.at = at;
     }
-}
 
-fn lesser(x: usize, y: usize) -> usize
-    ensures { (result ≤ x) × (result ≤ y) }
-{
-    if x < y { x } else { y }
-}
-
-// Octets from one place to another, again and again as far as an end. Answers where they end then.
-fn repeated(octets: &mut [u8], from: usize, to: usize, end: u32) -> usize
-    requires { (from ≤ to) × (to ≤ length octets.old) }
-    ensures { result ≤ length octets.new }
-{
-    let width = to - from;
-    let stop = lesser(end as usize, octets.len());
-    let mut at = to;
-    while at < stop {
-        octets[at] = octets[at - width];
-        at += 1;
+    // The word, again and again as far as an end.
+    fn repeat_word(&mut self, end: usize)
+        ensures { self.new.octets.ghost_name ≡ self.old.octets.ghost_name }
+    {
+        let width = self.at - self.word;
+        let octets = &mut *self.octets;
+        let stop = end.min(octets.len()).max(self.at);
+        for at in self.at..stop {
+            octets[at] = octets[at - width];
+        }
+        self.at = stop;
     }
-    at
-}
 
-// An octet from its two halves.
-fn joined(high: u8, low: u8) -> u8 {
-    (((high as u32) * 16 + (low as u32)) % 256) as u8
-}
-
-// Half an octet more; where there is no room, nothing.
-fn half_put(octets: &mut [u8], reading: Reading, digit: u8) -> Reading
-    requires { (reading.word ≤ reading.at) × (reading.at ≤ length octets.old) }
-    ensures { (result.word ≤ result.at) × (result.at ≤ length octets.new) }
-{
-    let at = reading.at;
-    if octets.len() <= at {
-        return reading;
-    }
-    if reading.part == FIRST_HALF {
-        octets[at] = digit;
-        return Reading {
-            part: SECOND_HALF,
-            at,
-            word: reading.word,
-            end: 0,
+    // Half an octet more; where there is no room, nothing.
+    fn put_half(&mut self, digit: u8)
+        ensures { self.new.octets.ghost_name ≡ self.old.octets.ghost_name }
+    {
+        let Some(octet) = self.octets.get_mut(self.at) else {
+            return;
         };
+        if let Part::FirstHalf = self.part {
+            *octet = digit;
+            self.part = Part::SecondHalf;
+        } else {
+            *octet = octet.wrapping_mul(16).wrapping_add(digit);
+            self.part = Part::FirstHalf;
+            self.at += 1;
+        }
     }
-    octets[at] = joined(octets[at], digit);
-    Reading {
-        part: FIRST_HALF,
-        at: at + 1,
-        word: reading.word,
-        end: 0,
-    }
-}
 
-// Reads one character more.
-fn read(octets: &mut [u8], reading: Reading, character: u8) -> Reading
-    requires { (reading.word ≤ reading.at) × (reading.at ≤ length octets.old) }
-    ensures { (result.word ≤ result.at) × (result.at ≤ length octets.new) }
-{
-    if character == b'|' {
-        return word_at(0);
+    // Reads one character more. As half an octet, what is no digit stands for 16.
+    fn read(&mut self, character: u8)
+        ensures { self.new.octets.ghost_name ≡ self.old.octets.ghost_name }
+    {
+        match (character, self.part) {
+            (b'|', _) => self.begin_word(0),
+            (_, Part::Nothing) => {}
+            (b' ', Part::Count(end)) => {
+                self.repeat_word(end as usize);
+                self.begin_word(self.at);
+            }
+            (b' ', _) => self.begin_word(self.at),
+            (b'*', _) => self.part = Part::Count(0),
+            (_, Part::Count(end)) => self.part = Part::Count(longer(end, character)),
+            (_, Part::FirstHalf | Part::SecondHalf) => {
+                self.put_half(digit(character).unwrap_or(16))
+            }
+        }
     }
-    if reading.part == NOTHING {
-        return reading;
+
+    // Reads a row, and a space that ends it.
+    fn read_row(&mut self, row: &[u8])
+        ensures { self.new.octets.ghost_name ≡ self.old.octets.ghost_name }
+    {
+        for character in row {
+            self.read(*character);
+        }
+        self.read(b' ');
     }
-    if character == b' ' {
-        return word_at(repeated(octets, reading.word, reading.at, reading.end));
-    }
-    if character == b'*' {
-        return Reading {
-            part: COUNT,
-            at: reading.at,
-            word: reading.word,
-            end: 0,
-        };
-    }
-    if reading.part == COUNT {
-        return Reading {
-            part: COUNT,
-            at: reading.at,
-            word: reading.word,
-            end: longer(reading.end, character),
-        };
-    }
-    half_put(octets, reading, digit(character))
 }
 
 // The octets of a row, at the front of the lent ones. Answers how many they are.
@@ -173,15 +138,13 @@ pub fn octets_in(row: &[u8], octets: &mut [u8]) -> usize
     ensures { result ≤ length octets.new }
 {
     let mut reading = Reading {
-        part: NOTHING,
-        at: 0,
+        octets,
+        part: Part::Nothing,
         word: 0,
-        end: 0,
+        at: 0,
     };
-    for character in row {
-        reading = read(octets, reading, *character);
-    }
-    read(octets, reading, b' ').at
+    reading.read_row(row);
+    reading.at
 }
 
 // Fills lent octets from the input, as far as it goes. Answers how many it gave; where fewer than there is room for, it is at its
@@ -192,6 +155,7 @@ pub fn read_full<R: Read>(input: &mut R, octets: &mut [u8]) -> io::Result<usize>
     ensures end { IfOk result (λ count. count < length octets.new → IsAtEnd (R.remaining input.new)) }
     ensures err { OnErr result ((count : ℕ) × Consumes (R.remaining input.old) (R.remaining input.new) (take count octets.new)) }
 {
+    // By hand: `read_exact` fails where the input ends, and does not say how much there was.
     let mut at = 0usize;
     while at < octets.len() {
         let count = input.read(&mut octets[at..])?;
