@@ -2,29 +2,145 @@
 // and the numbers of a template.
 #![tactic(auto)]
 
-ghost use Rattle.std.specs.Prelude.{◌≡◌, ◌+◌, ◌*◌, ◌<◌, ◌≤◌, length, get_or};
+ghost use Rattle.std.specs.Prelude.{◌≡◌, ℕ, List, ◌+◌, ◌*◌, ◌<◌, ◌≤◌, length, get_or, replicate};
+ghost use mathlib.Core.List.{flat_map};
 ghost use Rattle.std.proofs.lemmas.List.Edits.{sets};
 ghost use Rattle.format.specs.Bits.{number_at};
 ghost use Rattle.format.specs.Lists.{◌over◌};
-ghost use Rattle.format.specs.Layout.{big_endian, in_fours, number_size, level_size, level_octets, point_size, point_octets, mark_of, held_by, twos_complement, group_size, group_octets};
+ghost use Rattle.format.specs.Layout.{big_endian, number_size, level_size, level_octets, in_fours, point_size, point_octets, mark_of, held_by, twos_complement, group_size, group_octets};
 ghost use Rattle.format.specs.Template.{template_by};
-ghost use Rattle.laws.specs.Groups.{group_in};
+ghost use Rattle.laws.specs.Groups.{group_in, group-size};
+ghost use Rattle.laws.specs.Lists.{length-listed};
+ghost use Rattle.std.proofs.Common.{rules};
+ghost use Rattle.laws.specs.Points.{size-point};
 
 use format::{
-    DecodedValue, Group, LEVEL_SIZE, Lengths, NUMBER_SIZE, NUMBERS_PER_GROUP, OctetPlace,
-    POINT_SIZE, Template, Widths,
+    DecodedValue, GROUP_SIZE, Group, LEVEL_SIZE, Lengths, NUMBER_SIZE, NUMBERS_PER_GROUP,
+    OctetPlace, POINT_SIZE, Template, Widths,
 };
+
+// What lies in lent octets, each as long as the other: a level, a number, a group, a point.
+pub trait InOctets: Copy {
+    ghost SIZE: { ℕ };
+
+    ghost octets_of: { Self → List ℕ };
+
+    const SIZE: usize;
+
+    // Stores it from a place on.
+    fn store_at(self, octets: &mut [u8], at: usize)
+        requires { at + SIZE ≤ length octets.old }
+        ensures { octets.new ≡ sets octets.old at (octets_of self) };
+
+    // Stores it as thing k.
+    final fn store(self, octets: &mut [u8], k: usize)
+        requires { (k + 1) * SIZE ≤ length octets.old }
+        ensures { octets.new ≡ sets octets.old (k * SIZE) (octets_of self) }
+    {
+        self.store_at(octets, k * Self::SIZE);
+    }
+
+    ghost some: { 0 < SIZE };
+
+    ghost long: { (x : Self) → length (octets_of x) ≡ SIZE };
+}
+
+// A level.
+impl InOctets for u16 {
+    ghost SIZE = { level_size };
+
+    ghost octets_of = { level_octets };
+
+    ghost some = { Prim.search rules };
+
+    ghost long = { λ x. length-listed level_size _ };
+
+    const SIZE: usize = LEVEL_SIZE;
+
+    fn store_at(self, octets: &mut [u8], at: usize) {
+        octets[at..at + LEVEL_SIZE].copy_from_slice(&self.to_be_bytes());
+    }
+}
+
+// A number.
+impl InOctets for u32 {
+    ghost SIZE = { number_size };
+
+    ghost octets_of = { big_endian number_size };
+
+    ghost some = { Prim.search rules };
+
+    ghost long = { λ x. length-listed number_size _ };
+
+    const SIZE: usize = NUMBER_SIZE;
+
+    fn store_at(self, octets: &mut [u8], at: usize) {
+        octets[at..at + NUMBER_SIZE].copy_from_slice(&self.to_be_bytes());
+    }
+}
+
+// "each of a group's four numbers take four octets"
+impl InOctets for Group {
+    ghost SIZE = { group_size };
+
+    ghost octets_of = { group_octets };
+
+    ghost some = { Prim.search rules };
+
+    ghost long = { group-size };
+
+    const SIZE: usize = GROUP_SIZE;
+
+    fn store_at(self, octets: &mut [u8], at: usize) {
+        let numbers = [self.start, self.length, self.least, self.width];
+        store_all(&numbers, &mut octets[at..at + GROUP_SIZE]);
+    }
+}
+
+// A point.
+impl InOctets for DecodedValue {
+    ghost SIZE = { point_size };
+
+    ghost octets_of = { point_octets };
+
+    ghost some = { Prim.search rules };
+
+    ghost long = { size-point };
+
+    const SIZE: usize = POINT_SIZE;
+
+    fn store_at(self, octets: &mut [u8], at: usize) {
+        octets[at] = mark_of(self);
+        octets[at + 1..at + POINT_SIZE].copy_from_slice(&held_by(self).to_be_bytes());
+    }
+}
+
+// One thing in as many places as are asked for, from place `from` on.
+pub fn store_same<T: InOctets>(octets: &mut [u8], from: usize, count: usize, thing: T)
+    requires { (from + count) * T.SIZE ≤ length octets.old }
+    ensures { octets.new ≡ sets octets.old (from * T.SIZE) (flat_map T.octets_of (replicate count thing)) }
+{
+    for k in 0..count {
+        thing.store(octets, from + k);
+    }
+}
+
+// Things from the first octet on.
+pub fn store_all<T: InOctets>(things: &[T], octets: &mut [u8])
+    requires { length things.now * T.SIZE ≤ length octets.old }
+    ensures { octets.new ≡ flat_map T.octets_of things.now over octets.old }
+{
+    for (k, thing) in things.iter().enumerate() {
+        thing.store(octets, k);
+    }
+}
 
 // Stores x from a place on, in n octets.
 pub fn store(octets: &mut [u8], at: usize, x: u64, n: usize)
     requires { (n ≤ 8) × (at + n ≤ length octets.old) }
     ensures { octets.new ≡ sets octets.old at (big_endian n x) }
 {
-    let mut i = 0usize;
-    while i < n {
-        octets[at + i] = places::octet_in(x, (n - 1 - i) * 8);
-        i += 1;
-    }
+    octets[at..at + n].copy_from_slice(&x.to_be_bytes()[8 - n..]);
 }
 
 // Level k.
@@ -32,7 +148,7 @@ pub fn store_level(octets: &mut [u8], k: usize, level: u16)
     requires { (k + 1) * level_size ≤ length octets.old }
     ensures { octets.new ≡ sets octets.old (k * level_size) (level_octets level) }
 {
-    store(octets, k * LEVEL_SIZE, level as u64, LEVEL_SIZE);
+    level.store(octets, k);
 }
 
 pub fn level_in(octets: &[u8], k: usize) -> u32
@@ -47,7 +163,7 @@ pub fn store_number(octets: &mut [u8], k: usize, number: u32)
     requires { (k + 1) * number_size ≤ length octets.old }
     ensures { octets.new ≡ sets octets.old (k * number_size) (big_endian number_size number) }
 {
-    store(octets, k * NUMBER_SIZE, number as u64, NUMBER_SIZE);
+    number.store(octets, k);
 }
 
 pub fn number_in(octets: &[u8], k: usize) -> u32
@@ -62,23 +178,14 @@ pub fn store_numbers(numbers: &[u32], octets: &mut [u8])
     requires { length numbers.now * number_size ≤ length octets.old }
     ensures { octets.new ≡ in_fours numbers.now over octets.old }
 {
-    let mut k = 0usize;
-    while k < numbers.len() {
-        store_number(octets, k, numbers[k]);
-        k += 1;
-    }
+    store_all(numbers, octets);
 }
 
-// "each of a group's four numbers take four octets": group k, from number 4·k on.
 pub fn store_group(octets: &mut [u8], k: usize, group: Group)
     requires { (k + 1) * group_size ≤ length octets.old }
     ensures { octets.new ≡ sets octets.old (k * group_size) (group_octets group) }
 {
-    let at = k * NUMBERS_PER_GROUP;
-    store_number(octets, at, group.start);
-    store_number(octets, at + 1, group.length);
-    store_number(octets, at + 2, group.least);
-    store_number(octets, at + 3, group.width);
+    group.store(octets, k);
 }
 
 pub fn group_in(octets: &[u8], k: usize) -> Group
@@ -110,38 +217,15 @@ pub fn held_by(point: DecodedValue) -> i64
 {
     match point {
         DecodedValue::Normal(number) => number,
-        DecodedValue::Missing1 => 0,
-        DecodedValue::Missing2 => 0,
+        DecodedValue::Missing1 | DecodedValue::Missing2 => 0,
     }
 }
 
-fn twos_complement(number: i64) -> u64
-    ensures { result ≡ twos_complement number }
-{
-    if number < 0 {
-        18446744073709551615 - ((!number) as u64)
-    } else {
-        number as u64
-    }
-}
-
-fn pattern_of(point: DecodedValue) -> u64
-    ensures { result ≡ twos_complement (held_by point) }
-{
-    twos_complement(held_by(point))
-}
-
-// Point k. A packed number's upper half is zero: stored by itself, and last but for the mark, each half is one store of the
-// machine.
 pub fn store_point(octets: &mut [u8], k: usize, point: DecodedValue)
     requires { (k + 1) * point_size ≤ length octets.old }
     ensures { octets.new ≡ sets octets.old (k * point_size) (point_octets point) }
 {
-    let at = k * POINT_SIZE;
-    let pattern = pattern_of(point);
-    store(octets, at + 5, pattern, 4);
-    store(octets, at + 1, pattern / 4294967296, 4);
-    octets[at] = mark_of(point);
+    point.store(octets, k);
 }
 
 // The number of point k, whose mark stays.
@@ -149,7 +233,8 @@ pub fn store_signed(octets: &mut [u8], k: usize, number: i64)
     requires { (k + 1) * point_size ≤ length octets.old }
     ensures { octets.new ≡ sets octets.old (k * point_size + 1) (big_endian 8 (twos_complement number)) }
 {
-    store(octets, k * POINT_SIZE + 1, twos_complement(number), 8);
+    let at = k * POINT_SIZE;
+    octets[at + 1..at + POINT_SIZE].copy_from_slice(&number.to_be_bytes());
 }
 
 pub fn mark_in(octets: &[u8], k: usize) -> u8
@@ -167,7 +252,8 @@ pub fn packed_in(octets: &[u8], k: usize) -> u32
     stream::read_four(octets, OctetPlace(k * POINT_SIZE + 5))
 }
 
-// A template from all its numbers, in Section 5's order.
+// A template from all its numbers, in Section 5's order. All ten are parameters: the C calls of include/cleatmow.h hand them over
+// one by one.
 pub fn template_by(
     width: u8,
     splitting: u8,

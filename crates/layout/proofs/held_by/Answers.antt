@@ -10,9 +10,3 @@ returns-in-Normal c =
     let number = c.in-Normal.number in
     let e : to_z w64 (of_z w64 number) ≡ number = search rules in
     rw c.in-Normal.is e
-
-pub returns-in-Missing1 : goal.returns-in-Missing1
-returns-in-Missing1 c = rw c.in-Missing1.is
-
-pub returns-in-Missing2 : goal.returns-in-Missing2
-returns-in-Missing2 c = rw c.in-Missing2.is
