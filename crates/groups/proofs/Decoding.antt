@@ -1,15 +1,20 @@
 -- The point of a value, test by test. Assumes nothing.
-use mathlib.Core.Path.{◌≡◌, ◌∙◌}
-use mathlib.Core.Bool.{and-false}
+use mathlib.Core.Path.{◌≡◌, refl, ◌∙◌}
+use mathlib.Core.Bool.{Bool, true, false, ◌&&◌, and-false}
 use Prim.Native.Nat.{ℕ, ◌+◌, ◌-◌, ◌^◌, ◌<◌}
-use native.Mathlib.Omega.{arith}
-use borrow.Author.Tests.{lt-ltb, eq-eqb, ne_eqb}
+use borrow.Author.Tests.{lt-ltb, ltb-true, eq-eqb, eqb-true, ne_eqb}
+use lib.Dec.{ltb, eqb}
 use lib.IntN.{pos}
-use lib.Pow.{pow_pos}
 use Rattle.format.specs.Unpacking.{decoded, point_of}
 use Rattle.format.specs.declared.Template.{Template}
 use Rattle.format.specs.declared.DecodedValue.{DecodedValue}
 use Rattle.format.specs.declared.DecodedValue.TheVariants.{Normal, Missing1, Missing2}
+
+-- two tests of which one fails
+not-both : (a b : Bool) → (a ≡ true → b ≡ true → ⊥) → (a && b) ≡ false
+not-both true true h = absurd (h refl refl)
+not-both true false h = refl
+not-both false b h = refl
 
 module _ (t : Template) (w v n : ℕ) where
   pub decoded-first : 0 < t.management → v ≡ 2 ^ w - 1 → Missing1 ≡ decoded t w v n
@@ -20,18 +25,13 @@ module _ (t : Template) (w v n : ℕ) where
   unfolding decoded
   decoded-second h m e = simp (ne_eqb v (2 ^ w - 1) h, and-false, eq-eqb t.management 2 m, eq-eqb v (2 ^ w - 2) e)
 
-  module _ {point : DecodedValue} (e : point ≡ Normal (pos n)) where
-    pub decoded-unmanaged : t.management ≡ 0 → point ≡ decoded t w v n
-    unfolding decoded
-    decoded-unmanaged m = simp (m, e)
-
-    pub decoded-once : (t.management ≡ 2 → ⊥) → (v ≡ 2 ^ w - 1 → ⊥) → point ≡ decoded t w v n
-    unfolding decoded
-    decoded-once m h = simp (ne_eqb v (2 ^ w - 1) h, and-false, ne_eqb t.management 2 m, e)
-
-    pub decoded-number : (v ≡ 2 ^ w - 1 → ⊥) → (v + 1 ≡ 2 ^ w - 1 → ⊥) → point ≡ decoded t w v n
-    unfolding decoded
-    decoded-number h k = simp (ne_eqb v (2 ^ w - 1) h, ne_eqb v (2 ^ w - 2) (λ q. omega (arith, pow_pos w)), and-false, e)
+  pub decoded-number : (0 < t.management → v ≡ 2 ^ w - 1 → ⊥) → (t.management ≡ 2 → v ≡ 2 ^ w - 2 → ⊥) → Normal (pos n) ≡ decoded t w v n
+  unfolding decoded
+  decoded-number h k =
+      simp (
+        not-both (ltb 0 t.management) (eqb v (2 ^ w - 1)) (λ p q. h (ltb-true 0 t.management p) (eqb-true v (2 ^ w - 1) q)),
+        not-both (eqb t.management 2) (eqb v (2 ^ w - 2)) (λ p q. k (eqb-true t.management 2 p) (eqb-true v (2 ^ w - 2) q)),
+      )
 
 -- ---- in a group
 

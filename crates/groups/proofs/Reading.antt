@@ -1,11 +1,11 @@
 -- References, widths and lengths, out of what is read. Assumes nothing.
 use mathlib.Core.Path.{◌≡◌, sym, ◌∙◌}
-use mathlib.Core.Bool.{Bool, true, and-eq-true_iff}
+use mathlib.Core.Bool.{true, and-eq-true_iff}
 use mathlib.Core.List.{List}
 use Prim.Native.Nat.{ℕ, suc, ◌+◌, ◌-◌, ◌*◌, ◌/◌, ◌^◌, ◌≤◌, ◌<◌}
 use native.Mathlib.Nat.{add-mul, mul-le-mul_right, le_of_lt}
 use native.Mathlib.Omega.{arith}
-use borrow.Author.Tests.{eq-eqb, ne_eqb, lt-ltb, le-ltb, ltb-true, leb-true}
+use borrow.Author.Tests.{eq-eqb, ne_eqb, ltb-true, leb-true}
 use lib.Dec.{ltb, leb}
 use lib.ListN.{length}
 use Rattle.format.specs.Bits.{number_at}
@@ -47,13 +47,6 @@ length_last t codes g h e = simp (eq-eqb (suc g) t.groups (omega arith)) e
 
 -- ---- a value
 
-module _ (group : PackedGroup) (payload : List ℕ) (p : ℕ) where
-  pub there-some : {area octet : ℕ} → 0 < group.width → (area ≡ group.length * group.width) × (area ≤ group.length * 32) → octet ≡ (p + area) / 8 → leb (octet + 8) (length payload) ≡ all_there group payload p
-  there-some w ea e = rw (e, ea.0, lt-ltb 0 group.width w)
-
-  pub there-none : group.width ≤ 0 → ltb 0 group.width ≡ all_there group payload p
-  there-none w = rw (le-ltb 0 group.width w)
-
 -- it leaves room for the reference in 32 bits
 pub value-below : (payload : List ℕ) (p w : ℕ) {value : ℕ} → w ≤ 31 → value ≡ number_at payload p w → value < 2 ^ 31
 value-below payload p w l e = rw e (number-below (bit-lt 8 payload) p w 31 l)
@@ -67,13 +60,13 @@ module _ {group : PackedGroup} {p bit k : ℕ} (h : Limited group p) (e : bit �
   pub place-next : bit + group.width ≡ p + (k + 1) * group.width
   place-next = omega (arith, add-mul k 1 group.width)
 
-  module _ (payload : List ℕ) {there : Bool} (et : there ≡ all_there group payload p) where
-    parts : there ≡ true → (ltb 0 group.width ≡ true) × (leb ((p + group.length * group.width) / 8 + 8) (length payload) ≡ true)
-    parts so = (and-eq-true_iff (ltb 0 group.width) _).0 (sym et ∙ so)
+  module _ (payload : List ℕ) (there : all_there group payload p ≡ true) where
+    parts : (ltb 0 group.width ≡ true) × (leb ((p + group.length * group.width) / 8 + 8) (length payload) ≡ true)
+    parts = (and-eq-true_iff (ltb 0 group.width) _).0 there
 
     -- eight octets are there where they are at the end
-    pub place-there : there ≡ true → bit / 8 + 8 ≤ length payload
-    place-there so = omega (arith, leb-true ((p + group.length * group.width) / 8 + 8) (length payload) (parts so).1, mul-le-mul_right group.width (le_of_lt l))
+    pub place-there : bit / 8 + 8 ≤ length payload
+    place-there = omega (arith, leb-true ((p + group.length * group.width) / 8 + 8) (length payload) parts.1, mul-le-mul_right group.width (le_of_lt l))
 
-    pub place-some : there ≡ true → 0 < group.width
-    place-some so = ltb-true 0 group.width (parts so).0
+    pub place-some : 0 < group.width
+    place-some = ltb-true 0 group.width parts.0

@@ -1,5 +1,5 @@
 -- A group by value, and its points. Assumes nothing.
-use Rattle.std.specs.Prelude.{ℕ, ◌+◌, ◌*◌, ◌/◌, ◌^◌, ◌≤◌, ◌<◌, Bool, ◌&&◌, List, ltb, leb, length}
+use Rattle.std.specs.Prelude.{ℕ, ◌+◌, ◌-◌, ◌*◌, ◌/◌, ◌^◌, ◌≤◌, ◌<◌, Bool, ◌&&◌, List, ltb, leb, length}
 use Rattle.format.specs.Bits.{number_at}
 use Rattle.format.specs.Refusals.{limit}
 use Rattle.format.specs.Unpacking.{Codes, reference_of, group_width, group_length, point_of}
@@ -36,3 +36,18 @@ pub record Limited (r : PackedGroup) (p : ℕ) : Type 0 where
 -- it has values, and eight octets are there from each of them on
 abbrev pub all_there : PackedGroup → List ℕ → ℕ → Bool
 all_there r payload p = ltb 0 r.width && leb ((p + r.length * r.width) / 8 + 8) (length payload)
+
+-- ---- in the group that holds a place of the list
+
+-- what reading a value of it asks: a group within document 01's limits, and a place that is near
+pub record Readable (h : HolderGroup) (place : ℕ) : Type 0 where
+  pub reference : h.reference < 2 ^ 31
+  pub width : h.width ≤ 31
+  pub values : h.values.0 < 2 ^ 62
+  pub begins : h.first ≤ place
+  pub near : place < h.first + limit
+
+-- the point there, of its own bits
+unfoldable pub held_point : Template → HolderGroup → List ℕ → ℕ → DecodedValue
+held_point t h payload place =
+    point_of t h.width h.reference (number_at payload (h.values.0 + (place - h.first) * h.width) h.width)

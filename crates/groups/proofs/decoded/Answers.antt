@@ -1,23 +1,21 @@
 -- `groups::decoded` meets its contract. Assumes nothing.
+use mathlib.Core.Path.{◌≡◌, ap, ◌∙◌}
+use lib.IntN.{pos}
 use lib.Pow.{pow_pos}
-use Rattle.groups.proofs.Decoding.{decoded-unmanaged, decoded-first, decoded-once, decoded-second, decoded-number}
+use mir.Syntax.{w64}
+use mir.ValLaws.{to_z_pos}
+use Rattle.format.specs.declared.DecodedValue.TheVariants.{Normal}
+use Rattle.groups.proofs.Decoding.{decoded-first, decoded-second, decoded-number}
 use native.Mathlib.Omega.{arith}
 use Rattle.groups.proofs.decoded.Goals as goal
 
-pub returns-then-management-eq0 : goal.returns-then-management-eq0
-returns-then-management-eq0 c = decoded-unmanaged _ _ _ _ (search) (omega arith)
-
-pub overflow_sub-greatest : goal.overflow_sub-greatest
-overflow_sub-greatest c = rw c.power-greatest.ensures (pow_pos _)
-
 pub returns-then-read-greatest : goal.returns-then-read-greatest
 returns-then-read-greatest c = decoded-first _ _ _ _ (omega arith) (omega arith)
-
-pub returns-then-management-ne2 : goal.returns-then-management-ne2
-returns-then-management-ne2 c = decoded-once _ _ _ _ (search) (λ e. omega arith) (λ e. omega arith)
 
 pub returns-then-read-greatest-2 : goal.returns-then-read-greatest-2
 returns-then-read-greatest-2 c = decoded-second _ _ _ _ (λ e. omega arith) (omega arith) (omega arith)
 
 pub returns : goal.returns
-returns c = decoded-number _ _ _ _ (search) (λ e. omega arith) (λ e. omega arith)
+returns c =
+    let is : c.from.result ≡ pos c.args.number = search in
+    rw is (ap Normal (to_z_pos w64 c.args.number (omega arith)) ∙ decoded-number _ _ _ _ (λ m e. omega arith) (λ m e. omega (arith, pow_pos c.args.width)))

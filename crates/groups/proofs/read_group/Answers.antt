@@ -1,5 +1,0 @@
--- `groups::read_group` meets its contract: each part is what its own function answers. Assumes nothing.
-use Rattle.groups.proofs.read_group.Goals as goal
-
-pub returns : goal.returns
-returns c = cc

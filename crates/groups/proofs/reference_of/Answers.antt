@@ -1,6 +1,0 @@
--- `groups::reference_of` meets its contract. Assumes nothing.
-use Rattle.groups.proofs.Reading.{reference-read}
-use Rattle.groups.proofs.reference_of.Goals as goal
-
-pub returns : goal.returns
-returns c = search reference-read

@@ -1,6 +1,0 @@
--- `groups::width_of` meets its contract. Assumes nothing.
-use Rattle.groups.proofs.Reading.{width_read}
-use Rattle.groups.proofs.width_of.Goals as goal
-
-pub returns : goal.returns
-returns c = search width_read
