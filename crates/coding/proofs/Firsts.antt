@@ -1,23 +1,16 @@
--- The numbers of the first groups that lie in octets. Assumes nothing.
-use mathlib.Core.Path.{◌≡◌, ap, ◌∙◌}
-use mathlib.Core.List.{List, [], ◌∷◌, ◌++◌, map}
-use Prim.Native.Nat.{ℕ, ◌+◌, ◌-◌, ◌<◌, ◌≤◌}
-use native.Mathlib.Omega.{arith}
-use lib.ListN.{length, get_or}
-use Rattle.format.specs.Lists.{listed, greatest, least}
+-- A number of each of the first groups. Assumes nothing.
+use Rattle.std.proofs.Common.{◌≡◌, ℕ, ◌+◌, ◌-◌, ◌<◌, ◌≤◌, List, [], ◌∷◌, ◌++◌, map, length, get_or, take, sym, ap, ◌∙◌, arith}
+use Rattle.std.proofs.lemmas.List.{map_more, get_or-map, length-map, length-take, take_all}
+use Rattle.format.specs.Lists.{greatest, least}
 use Rattle.format.specs.Grouping.{bits}
 use Rattle.format.specs.Packing.{width_coding}
 use Rattle.format.specs.declared.Group.{Group}
-use Rattle.laws.specs.Lists.{map-listed, listed_more, length-listed, get_or-listed}
 use Rattle.laws.specs.Extremes.{least-lower}
-use Rattle.laws.specs.Groups.{group_in, groups_in}
-use Rattle.numbers.specs.declared.Field.{Field}
-use Rattle.numbers.specs.declared.Field.TheVariants.{Widths}
+use Rattle.laws.specs.Groups.{group_in}
 use Rattle.numbers.specs.declared.Window.{Window}
 use Rattle.numbers.specs.Windows.{window_of, widened_by}
-use Rattle.numbers.specs.Records.{coded_number}
 use Rattle.numbers.proofs.Windows.{window_more}
-use Rattle.coding.specs.Codes.{Recorded}
+use Rattle.coding.specs.Codes.{widths_in, Codable}
 
 -- ---- any numbers
 
@@ -32,47 +25,43 @@ window-least xs e = rw e (omega arith)
 
 -- ---- those of groups
 
-module _ (field : Field) (octets : List ℕ) where
-  abbrev one : ℕ → ℕ
-  one k = coded_number field (group_in octets k)
+-- group k of them, whatever is read behind the last
+abbrev pub IsAt : List Group → ℕ → Group → Type 0
+IsAt groups k g = (d : Group) → g ≡ get_or groups k d
 
+module _ (number : Group → ℕ) (groups : List Group) where
   abbrev pub firsts : ℕ → List ℕ
-  firsts k = map (coded_number field) (groups_in octets k)
+  firsts k = map number (take k groups)
 
-  firsts-listed : (k : ℕ) → firsts k ≡ listed k one
-  firsts-listed k = map-listed (coded_number field) k (group_in octets)
+  pub firsts-next : (k : ℕ) {g : Group} → k < length groups → IsAt groups k g → firsts (k + 1) ≡ firsts k ++ (number g ∷ [])
+  firsts-next k {g} l e = map_more number groups k g l ∙ ap (λ (h : Group). firsts k ++ (number h ∷ [])) (sym (e g))
 
-  pub firsts-next : (k : ℕ) → firsts (k + 1) ≡ firsts k ++ (one k ∷ [])
-  firsts-next k = rw (firsts-listed k, firsts-listed (k + 1)) (listed_more k one)
+  pub firsts-all : (k : ℕ) → length groups ≤ k → firsts k ≡ map number groups
+  firsts-all k l = ap (map number) (take_all k groups l)
 
-  pub firsts-last : (k : ℕ) → 0 < k → firsts k ≡ firsts (k - 1) ++ (one (k - 1) ∷ [])
-  firsts-last k p = let e : k ≡ k - 1 + 1 = omega arith in ap firsts e ∙ firsts-next (k - 1)
+  pub firsts-last : {g : Group} → 0 < length groups → IsAt groups (length groups - 1) g → map number groups ≡ firsts (length groups - 1) ++ (number g ∷ [])
+  firsts-last l e =
+      sym (firsts-all (length groups - 1 + 1) (omega arith)) ∙ firsts-next (length groups - 1) (omega arith) e
 
-  length-firsts : (k : ℕ) → length (firsts k) ≡ k
-  length-firsts k = rw (firsts-listed k) (length-listed k one)
-
-  get_or-firsts : (k i : ℕ) → i < k → get_or (firsts k) i 0 ≡ one i
-  get_or-firsts k i l = rw (firsts-listed k) (get_or-listed k one 0 i l)
-
-  pub window-first : {w : Window} {g : Group} {x : ℕ} → g ≡ group_in octets 0 → x ≡ coded_number field g → w ≡ window_of (x ∷ []) → w ≡ window_of (firsts 1)
-  unfolding listed
-  window-first {w} {g} {x} eg ex ew = rw (ew, ex, eg)
+  pub window-first : {g : Group} {x : ℕ} {w : Window} → 0 < length groups → IsAt groups 0 g → x ≡ number g → w ≡ window_of (x ∷ []) → w ≡ window_of (firsts 1)
+  window-first l e ex ew = ew ∙ ap window_of (ap (λ (y : ℕ). y ∷ []) ex ∙ sym (firsts-next 0 l e))
 
   -- a turn of a loop that widens a window
-  pub window-next : (k : ℕ) {w v : Window} {g : Group} {x : ℕ} → 0 < k → w ≡ window_of (firsts k) → g ≡ group_in octets k → x ≡ coded_number field g → v ≡ widened_by w x
+  pub window-next : (k : ℕ) {g : Group} {x : ℕ} {w v : Window} → 0 < k → k < length groups → w ≡ window_of (firsts k) → IsAt groups k g → x ≡ number g → v ≡ widened_by w x
       → v ≡ window_of (firsts (k + 1))
-  window-next k p ew eg ex ev = rw (firsts-next k) (window_more (firsts k) ew (one k) (rw (length-firsts k) p) (ex ∙ ap (coded_number field) eg) ev)
+  window-next k {g} p l ew e ex ev =
+      rw (firsts-next k l e) (window_more (firsts k) ew (number g) (omega (arith, length-map (take k groups) number, length-take k groups)) ex ev)
 
-  -- and its end
-  pub window-last : (k : ℕ) {n : ℕ} {w : Window} → k ≤ n → n ≤ k → w ≡ window_of (firsts k) → w ≡ window_of (firsts n)
-  window-last k {n} l m e = let d : k ≡ n = omega arith in rw d at e
+  least-at : (k : ℕ) (d : Group) → k < length groups → least (map number groups) ≤ number (get_or groups k d)
+  least-at k d l = rw (← get_or-map number groups k d 0 l) (least-lower (map number groups) k (omega (arith, length-map groups number)))
 
-  pub least-below : (k i : ℕ) → i < k → least (firsts k) ≤ one i
-  least-below k i l = rw (← get_or-firsts k i l) (least-lower (firsts k) i (rw (length-firsts k) l))
+  pub least-below : (k : ℕ) {g : Group} → k < length groups → IsAt groups k g → least (map number groups) ≤ number g
+  least-below k {g} l e = rw (← e g) at (least-at k g l)
 
 -- the first width, so the least too, is a number of one octet
-pub least-width : (octets : List ℕ) (n : ℕ) → Recorded octets n → {w : Window} → w ≡ window_of (firsts Widths octets n) → w.least < 256
-least-width octets n h e = rw e (omega (arith, least-below Widths octets n 0 h.some, h.narrow 0 h.some))
+pub least-width : (groups : List Group) → Codable groups → {w : Window} → w ≡ window_of (widths_in groups) → w.least < 256
+least-width groups h e =
+    let d = group_in [] 0 in rw e (omega (arith, least-at (λ g. g.width) groups 0 d h.some, h.narrow d 0 h.some))
 
 pub widths-coded : (xs : List ℕ) {w : Window} → w ≡ window_of xs → {b : ℕ} → b ≡ bits (w.greatest - w.least) → record { reference = w.least; bits = b } ≡ width_coding xs
 unfolding width_coding

@@ -1,3 +1,5 @@
+pub mod Lists
+pub mod Firsts
 pub mod Codings
 pub mod Divisors
-pub mod Firsts
+pub mod Recordings

@@ -2,32 +2,80 @@
 // groups in a lent list are coded.
 #![tactic(auto)]
 
-ghost use Rattle.std.specs.Prelude.{◌≡◌, List, map, ℕ, ◌*◌, ◌-◌, ◌/◌, ◌<◌, ◌≤◌, length};
+ghost use Rattle.std.specs.Prelude.{◌≡◌, List, map, ℕ, ◌*◌, ◌-◌, ◌/◌, ◌<◌, ◌≤◌, length, get_or, take};
 ghost use Rattle.format.specs.Lists.{greatest, least};
 ghost use Rattle.format.specs.Layout.{group_size};
 ghost use Rattle.format.specs.Grouping.{bits};
 ghost use Rattle.format.specs.Packing.{gcd, gcd_from, divisor_up_to, increment_of, width_coding, length_coding, template_of};
-ghost use Rattle.laws.specs.Groups.{groups_in, own_groups, Sound};
+ghost use Rattle.format.specs.declared.Group.{Group};
+ghost use Rattle.laws.specs.Groups.{groups_in, own_groups};
 ghost use Rattle.numbers.specs.Windows.{window_of};
-ghost use Rattle.numbers.specs.Records.{coded_number};
-ghost use Rattle.coding.specs.Codes.{Recorded};
+ghost use Rattle.coding.specs.Codes.{widths_in, lengths_in, Codable, Recorded};
 
-use format::{Lengths, Template, Widths};
-use numbers::{Field, Window};
+use format::{Group, Lengths, Template, Widths};
+use numbers::Window;
+use std::marker::Model;
 
-// The least and the greatest of one number of the first groups.
-fn window_over(field: Field, groups: &[u8], count: usize) -> Window
-    requires { (0 < count) × (count * group_size ≤ length groups.now) }
-    ensures { result ≡ window_of (map (coded_number field) (groups_in groups.now count)) }
+// The records of groups, as they lie in lent octets.
+#[derive(Drop)]
+pub struct Records<'a> {
+    octets: &'a [u8],
+    count: usize,
+}
+
+// Contracts see the list of the groups.
+impl<'a> Model for Records<'a> {
+    ghost Value = { List Group };
+
+    ghost view = { λ r. groups_in r.octets.now r.count };
+
+    ghost invariant = { λ r. r.count * group_size ≤ length r.octets.now };
+}
+
+impl<'a> Records<'a> {
+    // The first `count` of those in the octets.
+    pub fn of(octets: &'a [u8], count: usize) -> Records<'a>
+        requires { count * group_size ≤ length octets.now }
+        ensures { result ≡ groups_in octets.now count }
+    {
+        Records { octets, count }
+    }
+
+    pub fn len(&self) -> usize
+        ensures { result ≡ length self.now }
+    {
+        self.count
+    }
+
+    pub fn at(&self, k: usize) -> Group
+        requires { k < length self.now }
+        ensures { (d : Group) → result ≡ get_or self.now k d }
+    {
+        layout::group_in(self.octets, k)
+    }
+
+    // "all lengths but the last" are those of these.
+    pub fn but_last(&self) -> Records<'a>
+        requires { 0 < length self.now }
+        ensures { result ≡ take (length self.now - 1) self.now }
+    {
+        Records {
+            octets: self.octets,
+            count: self.count - 1,
+        }
+    }
+}
+
+// The least and the greatest of one number of each group: of its width, or of its length. `coded` is what the closure gives.
+fn window_over<F: Fn(Group) -> u32>(records: &Records, number: F) -> Window
+    ghost coded: { Group → ℕ }
+    requires some { 0 < length records.now }
+    requires number_coded { (g : Group) → F.pre number g × ((n : ℕ) → F.post number g n → n ≡ coded g) }
+    ensures { result ≡ window_of (map coded records.now) }
 {
-    let mut window = numbers::window_of(numbers::coded_number(layout::group_in(groups, 0), field));
-    let mut k = 1usize;
-    while k < count {
-        window = numbers::widened(
-            window,
-            numbers::coded_number(layout::group_in(groups, k), field),
-        );
-        k += 1;
+    let mut window = Window::of(number(records.at(0)));
+    for k in 1..records.len() {
+        window = window.widened(number(records.at(k)));
     }
     window
 }
@@ -40,15 +88,13 @@ fn gcd(a: u32, b: u32) -> u32
 }
 
 // "step = the greatest common divisor [..] of the differences from it"
-fn step_of(groups: &[u8], count: usize, reference: u32) -> u32
-    requires { (count * group_size ≤ length groups.now) × (reference ≤ least (map (coded_number Field.Lengths) (groups_in groups.now count))) }
-    ensures { result ≡ gcd_from 0 (map (λ n. n - reference) (map (coded_number Field.Lengths) (groups_in groups.now count))) }
+fn step_of(records: &Records, reference: u32) -> u32
+    requires { reference ≤ least (lengths_in records.now) }
+    ensures { result ≡ gcd_from 0 (map (λ n. n - reference) (lengths_in records.now)) }
 {
-    let mut step = 0u32;
-    let mut k = 0usize;
-    while k < count {
-        step = gcd(step, layout::group_in(groups, k).length - reference);
-        k += 1;
+    let mut step = 0;
+    for k in 0..records.len() {
+        step = gcd(step, records.at(k).length - reference);
     }
     step
 }
@@ -57,14 +103,12 @@ fn step_of(groups: &[u8], count: usize, reference: u32) -> u32
 fn divisor_of(step: u32) -> u32
     ensures { (result ≡ divisor_up_to step 255) × (result ≤ 255) }
 {
-    let mut divisor = 255u32;
-    let found = loop {
+    for divisor in (2..256).rev() {
         if step % divisor == 0 {
-            break divisor;
+            return divisor;
         }
-        divisor -= 1;
-    };
-    found
+    }
+    1
 }
 
 // "A step up to 255 is the increment; a larger one gives the greatest divisor of it that is at most 255."
@@ -78,14 +122,15 @@ fn increment_of(step: u32) -> u32
 }
 
 // "Width reference = least group width; width bits = bits(greatest − least)."
-fn widths_of(groups: &[u8], count: usize) -> Widths
-    requires { Recorded groups.now count }
-    ensures { result ≡ width_coding (map (coded_number Field.Widths) (groups_in groups.now count)) }
+fn widths_of(records: &Records) -> Widths
+    requires { Codable records.now }
+    ensures { result ≡ width_coding (widths_in records.now) }
 {
-    let widths = window_over(Field::Widths, groups, count);
-    let reference = widths.least as u8;
-    let bits = numbers::width(widths) as u8;
-    Widths { reference, bits }
+    let widths = window_over(records, |group| group.width);
+    Widths {
+        reference: widths.least as u8,
+        bits: widths.width() as u8,
+    }
 }
 
 // "Length bits = bits(greatest difference / increment)."
@@ -99,12 +144,12 @@ fn length_bits(difference: u32, increment: u32) -> u32
 }
 
 // "With one group, length reference, increment and length bits are 0. Otherwise take all lengths but the last".
-fn lengths_of(groups: &[u8], count: usize) -> Lengths
-    requires { Recorded groups.now count }
-    ensures { result ≡ length_coding (map (coded_number Field.Lengths) (groups_in groups.now count)) }
+fn lengths_of(records: &Records) -> Lengths
+    requires { Codable records.now }
+    ensures { result ≡ length_coding (lengths_in records.now) }
 {
-    let last = layout::group_in(groups, count - 1).length;
-    if count == 1 {
+    let last = records.at(records.len() - 1).length;
+    if records.len() == 1 {
         return Lengths {
             reference: 0,
             increment: 0,
@@ -112,31 +157,30 @@ fn lengths_of(groups: &[u8], count: usize) -> Lengths
             bits: 0,
         };
     }
-    let lengths = window_over(Field::Lengths, groups, count - 1);
-    let reference = lengths.least;
-    let increment = increment_of(step_of(groups, count - 1, reference));
-    let bits = length_bits(lengths.greatest - reference, increment) as u8;
-    let increment = increment as u8;
+    let firsts = records.but_last();
+    let lengths = window_over(&firsts, |group| group.length);
+    let increment = increment_of(step_of(&firsts, lengths.least));
+    let bits = length_bits(lengths.greatest - lengths.least, increment);
     Lengths {
-        reference,
-        increment,
+        reference: lengths.least,
+        increment: increment as u8,
         last,
-        bits,
+        bits: bits as u8,
     }
 }
 
 // "Number width = bits(greatest number). [..] Splitting method 1, missing management 0": the template of the groups that the
-// records in a list speak of, whatever numbers these are of.
-pub fn template_of(top: u32, groups: &[u8], count: usize) -> Template
-    requires { Recorded groups.now count }
-    ensures { (numbers : List ℕ) → Sound numbers groups.now count → top ≡ greatest numbers → result ≡ template_of numbers (own_groups numbers (groups_in groups.now count)) }
+// records speak of, whatever numbers these are of.
+pub fn template_of(top: u32, records: &Records) -> Template
+    requires { Codable records.now }
+    ensures { (numbers : List ℕ) → Recorded numbers records.now → top ≡ greatest numbers → result ≡ template_of numbers (own_groups numbers records.now) }
 {
     Template {
         width: places::bits(top) as u8,
         splitting: 1,
         management: 0,
-        groups: count as u32,
-        widths: widths_of(groups, count),
-        lengths: lengths_of(groups, count),
+        groups: records.len() as u32,
+        widths: widths_of(records),
+        lengths: lengths_of(records),
     }
 }

@@ -1,15 +1,12 @@
 -- `coding::lengths_of` meets its contract. All lengths but the last are those of the groups but the last. Assumes nothing.
-use native.Mathlib.Omega.{arith}
+use Rattle.std.proofs.Common.{arith}
 use Rattle.numbers.proofs.Windows.{window-ordered}
 use Rattle.coding.proofs.Firsts.{window-least}
 use Rattle.coding.proofs.Codings.{one-coded, all_coded}
 use Rattle.coding.proofs.lengths_of.Goals as goal
 
-pub returns-then-count-eq1 : goal.returns-then-count-eq1
-returns-then-count-eq1 c = search one-coded
-
-pub step_of-requires : goal.step_of-requires
-step_of-requires c = (omega arith, search window-least)
+pub returns-then-len-eq1 : goal.returns-then-len-eq1
+returns-then-len-eq1 c = one-coded c.args.records.now c.requires.some c.len.ensures c.at-last.ensures (omega arith)
 
 pub overflow_sub-lengths : goal.overflow_sub-lengths
 overflow_sub-lengths c = search window-ordered

@@ -1,12 +1,9 @@
--- What the loop of `coding::step_of` keeps, and why it ends: after k turns it is the step of k lengths. Assumes nothing.
-use mathlib.Core.Path.{◌≡◌}
-use Prim.Native.Nat.{◌≤◌, ◌-◌}
+-- What the loop of `coding::step_of` keeps: after k turns it is the step of k lengths. Assumes nothing.
+use Rattle.std.proofs.Common.{◌≡◌, take}
 use Rattle.format.specs.Packing.{gcd_from}
-use Rattle.coding.proofs.Codings.{differences, lengths}
+use Rattle.coding.specs.Codes.{lengths_in}
+use Rattle.coding.proofs.Codings.{differences}
 use Rattle.coding.proofs.step_of.Given as goal
 
 abbrev pub invariant-loop-k : goal.invariant-loop-k
-invariant-loop-k l = (l.k ≤ l.count) × (l.step ≡ gcd_from 0 (differences l.reference (lengths l.groups l.k)))
-
-abbrev pub decreases-loop-k : goal.decreases-loop-k
-decreases-loop-k l = l.count - l.k
+invariant-loop-k l = l.step ≡ gcd_from 0 (differences l.reference (lengths_in (take l.k l.records)))
