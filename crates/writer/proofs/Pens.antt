@@ -13,7 +13,7 @@ use Rattle.format.specs.declared.OctetPlace.{OctetPlace}
 use Rattle.laws.specs.Lists.{grown}
 use Rattle.laws.specs.Bits.{number-add, number-mid}
 use Rattle.laws.specs.Strings.{bits-append, bits-string, length-string, number-own, number-front, octets-front, number_past}
-use Rattle.writer.specs.Pen.{Held, Ready, Moved}
+use Rattle.writer.specs.Pen.{Held, fresh, Ready, Moved}
 use Rattle.writer.specs.declared.Pen.{Pen}
 
 -- ---- what is held
@@ -81,24 +81,22 @@ pub record Emitting (octets₀ : List ℕ) (at₀ number₀ pending₀ : ℕ) (o
 
 module _ {p : Pen} {octets : List ℕ} {w : ℕ} (r : Ready p w octets) where
   pub ready-small : p.number < 256
-  ready-small = lt_of_lt_of_le r.small (pow_mono {j = 8} (omega (arith, r.few)))
+  ready-small = lt_of_lt_of_le p.small (pow_mono {j = 8} (omega (arith, p.few)))
 
   module _ {x y : ℕ} (l : (w ≤ 32) × (x < 2 ^ w)) (e : (y ≡ p.number * 2 ^ w) × (y ≤ 255 * 2 ^ 32)) where
     pub emitting-start : Emitting octets p.place.0 (y + x) (p.pending + w) octets p.place.0 (y + x) (p.pending + w)
     emitting-start = record {
       place = refl;
-      few = omega (arith, r.few);
+      few = omega (arith, p.few);
       room = omega (arith, r.room);
       long = refl;
-      small = rw (e.0, pow-add 2 p.pending w) (digits_lt r.small l.1);
+      small = rw (e.0, pow-add 2 p.pending w) (digits_lt p.small l.1);
       held = λ string lent h. h;
     }
 
-    pub emitting-end : {octets' : List ℕ} {at number pending : ℕ} → Emitting octets p.place.0 (y + x) (p.pending + w) octets' at number pending → pending < 8
-        → Moved p (string_of w (x ∷ [])) octets octets' (record { place = record { 0 = at }; number = number; pending = pending })
-    emitting-end i m = record {
-      few = omega arith;
-      small = i.small;
+    pub emitting-end : {octets' : List ℕ} {at number pending : ℕ} → Emitting octets p.place.0 (y + x) (p.pending + w) octets' at number pending
+        → {few : pending ≤ 7} {small : number < 2 ^ pending} → Moved p (string_of w (x ∷ [])) octets octets' (record { place = record { 0 = at }; number = number; pending = pending; few = few; small = small })
+    emitting-end i = record {
       place = omega (arith, i.place, length-string w (x ∷ []), one-mul w);
       long = i.long;
       held = λ string lent h. i.held _ lent (held_number h w x l.1 (ap (λ (n : ℕ). n + x) e.0));
@@ -118,25 +116,20 @@ module _ {octets₀ octets : List ℕ} {at₀ number₀ pending₀ at number pen
 
 -- ---- from pen to pen
 
-abbrev pub fresh : OctetPlace → Pen
-fresh place = record { place = place; number = 0; pending = 0 }
-
 -- a pen on an octet of its own, with room for n bits
 pub fresh-ready : {p : Pen} {place : OctetPlace} → p ≡ fresh place → (n : ℕ) {octets : List ℕ} → place.0 + rounded_up n ≤ length octets → Ready p n octets
-fresh-ready {p} {place} e n l = rw e (record { few = omega arith; small = omega arith; room = omega arith })
+fresh-ready {p} {place} e n l = rw e (record { room = omega arith })
 
-pub moved_none : {p : Pen} {n : ℕ} {octets : List ℕ} → Ready p n octets → Moved p [] octets octets p
-moved_none r = record { few = r.few; small = r.small; place = omega arith; long = refl; held = λ string lent h. rw (append-nil string) h }
+pub moved_none : (p : Pen) (octets : List ℕ) → Moved p [] octets octets p
+moved_none p octets = record { place = omega arith; long = refl; held = λ string lent h. rw (append-nil string) h }
 
 module _ {p q : Pen} {a octets octets' : List ℕ} (m : Moved p a octets octets' q) where
   pub moved_then : {r : Pen} {b octets'' : List ℕ} → Moved q b octets' octets'' r → Moved p (a ++ b) octets octets'' r
   moved_then {b = b} n = record {
-    few = n.few;
-    small = n.small;
     place = omega (arith, m.place, n.place, length-append a b);
     long = n.long ∙ m.long;
     held = λ string lent h. rw (← append_assoc string a b) (n.held (string ++ a) lent (m.held string lent h));
   }
 
   pub moved_ready : {k : ℕ} (n : ℕ) → Ready p k octets → length a + n ≤ k → Ready q n octets'
-  moved_ready n r l = record { few = m.few; small = m.small; room = omega (arith, m.place, m.long, r.room) }
+  moved_ready n r l = record { room = omega (arith, m.place, m.long, r.room) }

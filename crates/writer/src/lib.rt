@@ -5,9 +5,9 @@ ghost use Rattle.std.specs.Prelude.{◌≡◌, false, List, [], ◌∷◌, ◌*�
 ghost use Rattle.format.specs.Lists.{any_of};
 ghost use Rattle.format.specs.Refusals.{left};
 ghost use Rattle.format.specs.Bits.{string_of, written, write_field};
-ghost use Rattle.writer.specs.Pen.{Ready, Moved, Finished, Job};
+ghost use Rattle.writer.specs.Job.{Job};
 
-use format::{BitPlace, OctetPlace, Refusal, Stored};
+use format::{BitPlace, OctetPlace, Refusal};
 
 // Octets that are being written: those before `place` are out, and the `pending` bits after them make `number`.
 #[derive(Clone, Copy)]
@@ -15,16 +15,67 @@ pub struct Pen {
     pub place: OctetPlace,
     pub number: u64,
     pub pending: usize,
+    pub ghost few: { pending ≤ 7 },
+    pub ghost small: { number < 2 ^ pending },
 }
 
-// A pen on an octet of its own.
-pub fn pen_at(place: OctetPlace) -> Pen
-    ensures { result ≡ record { place = place; number = 0; pending = 0 } }
-{
-    Pen {
-        place,
-        number: 0,
-        pending: 0,
+impl Pen {
+    ghost use Rattle.writer.specs.Pen.{fresh, Ready, Moved, Finished};
+
+    // A pen on an octet of its own.
+    pub fn at(place: OctetPlace) -> Pen
+        ensures { result ≡ fresh place }
+    {
+        Pen {
+            place,
+            number: 0,
+            pending: 0,
+        }
+    }
+
+    // Writes a number of `width` bits behind those that the pen has written.
+    pub fn put(self, x: u64, width: usize, octets: &mut [u8]) -> Pen
+        requires ready { Ready self width octets.old }
+        requires width_bound { (width ≤ 32) × (x < 2 ^ width) }
+        ensures { Moved self (string_of width (x ∷ [])) octets.old octets.new result }
+    {
+        let mut at = self.place.0;
+        let mut number = shifted(self.number, width) + x;
+        let mut pending = self.pending + width;
+        while 8 <= pending {
+            pending -= 8;
+            octets[at] = places::octet_in(number, pending);
+            number = places::cut(number, 0, pending);
+            at += 1;
+        }
+        Pen {
+            place: OctetPlace(at),
+            number,
+            pending,
+        }
+    }
+
+    // Writes numbers of `width` bits that fit it.
+    pub fn put_all(self, numbers: &[u32], width: usize, octets: &mut [u8]) -> Pen
+        requires ready { Ready self (length numbers.now * width) octets.old }
+        requires width_bound { (width ≤ 32) × (any_of (leb (2 ^ width)) numbers.now ≡ false) }
+        ensures { Moved self (string_of width numbers.now) octets.old octets.new result }
+    {
+        let mut here = self;
+        for number in numbers {
+            here = here.put(*number as u64, width, octets);
+        }
+        here
+    }
+
+    // Writes the bits that are pending, and zeros to their octet's end: the one step that touches a bit after the last.
+    pub fn finish(self, octets: &mut [u8])
+        requires { Ready self 0 octets.old }
+        ensures { Finished self octets.old octets.new }
+    {
+        if 0 < self.pending {
+            octets[self.place.0] = places::octet_in(shifted(self.number, 8 - self.pending), 0);
+        }
     }
 }
 
@@ -36,76 +87,13 @@ fn shifted(number: u64, k: usize) -> u64
     number * places::power(k)
 }
 
-// Writes a number of `width` bits behind those that the pen has written.
-pub fn put(pen: Pen, x: u64, width: usize, octets: &mut [u8]) -> Pen
-    requires ready { Ready pen width octets.old }
-    requires width_bound { (width ≤ 32) × (x < 2 ^ width) }
-    ensures { Moved pen (string_of width (x ∷ [])) octets.old octets.new result }
-{
-    let mut at = pen.place.0;
-    let mut number = shifted(pen.number, width) + x;
-    let mut pending = pen.pending + width;
-    while 8 <= pending {
-        pending -= 8;
-        octets[at] = places::octet_in(number, pending);
-        number = places::cut(number, 0, pending);
-        at += 1;
-    }
-    Pen {
-        place: OctetPlace(at),
-        number,
-        pending,
-    }
-}
-
-// Writes the bits that are pending, and zeros to their octet's end: the one step that touches a bit after the last.
-pub fn finish(pen: Pen, octets: &mut [u8])
-    requires { Ready pen 0 octets.old }
-    ensures { Finished pen octets.old octets.new }
-{
-    let pending = pen.pending;
-    if 0 < pending {
-        let at = pen.place.0;
-        octets[at] = places::octet_in(shifted(pen.number, 8 - pending), 0);
-    }
-}
-
-fn number_at(numbers: &[u32], k: usize) -> u64
-    requires { k < length numbers.now }
-    ensures { (result ≡ get_or numbers.now k 0) × (result < 2 ^ 32) }
-{
-    numbers[k] as u64
-}
-
-// Writes numbers of `width` bits that fit it.
-pub fn put_all(pen: Pen, numbers: &[u32], width: usize, octets: &mut [u8]) -> Pen
-    requires ready { Ready pen (length numbers.now * width) octets.old }
-    requires width_bound { (width ≤ 32) × (any_of (leb (2 ^ width)) numbers.now ≡ false) }
-    ensures { Moved pen (string_of width numbers.now) octets.old octets.new result }
-{
-    let mut here = pen;
-    let mut k = 0usize;
-    while k < numbers.len() {
-        here = put(here, number_at(numbers, k), width, octets);
-        k += 1;
-    }
-    here
-}
-
 // Whether a number does not fit the width.
 fn any_too_large(numbers: &[u32], width: usize) -> bool
     requires { width ≤ 32 }
     ensures { result ≡ any_of (leb (2 ^ width)) numbers.now }
 {
     let limit = places::power(width);
-    let mut k = 0usize;
-    while k < numbers.len() {
-        if limit <= number_at(numbers, k) {
-            return true;
-        }
-        k += 1;
-    }
-    false
+    numbers.iter().any(|number| limit <= *number as u64)
 }
 
 // Writes numbers, one or more, that fit into octets that have room: the bits before the start stay pending in the pen.
@@ -116,34 +104,39 @@ fn write(numbers: &[u32], start: BitPlace, width: usize, octets: &mut [u8])
     let s = start.0;
     let pen = Pen {
         place: OctetPlace(0),
-        number: places::cut(places::wide(octets[0]), 8 - s, s),
+        number: places::cut(octets[0] as u64, 8 - s, s),
         pending: s,
     };
-    finish(put_all(pen, numbers, width, octets), octets);
+    pen.put_all(numbers, width, octets).finish(octets);
 }
 
 // Writes numbers of `width` bits from bit `start` of the octets on.
-pub fn write_field(numbers: &[u32], start: BitPlace, width: usize, octets: &mut [u8]) -> Stored
+pub fn write_field(
+    numbers: &[u32],
+    start: BitPlace,
+    width: usize,
+    octets: &mut [u8],
+) -> Result<OctetPlace, Refusal>
     ensures { left result octets.new ≡ write_field numbers.now start.0 width octets.old }
 {
     if width == 0 {
-        return Stored::Refused(Refusal::Width);
+        return Err(Refusal::Width);
     }
     if 32 < width {
-        return Stored::Refused(Refusal::Width);
+        return Err(Refusal::Width);
     }
     if 7 < start.0 {
-        return Stored::Refused(Refusal::Width);
+        return Err(Refusal::Width);
     }
     if any_too_large(numbers, width) {
-        return Stored::Refused(Refusal::Numbers);
+        return Err(Refusal::Numbers);
     }
     let span = places::span(start, width, numbers.len());
     if octets.len() < span.0 {
-        return Stored::Refused(Refusal::Room);
+        return Err(Refusal::Room);
     }
-    if numbers.len() != 0 {
+    if !numbers.is_empty() {
         write(numbers, start, width, octets);
     }
-    Stored::Span(span)
+    Ok(span)
 }

@@ -34,11 +34,11 @@ write-requires c = record {
   top = omega arith;
   fit = cc;
   room = omega arith;
-  some = omega arith;
+  some = grind (arith, tests);
 }
 
-pub returns-then-numbers-ne0 : goal.returns-then-numbers-ne0
-returns-then-numbers-ne0 c = field-written _ _ _ _ (search rules) (omega (arith, tests, flag_same)) (search rules)
+pub returns-then-not-is_empty : goal.returns-then-not-is_empty
+returns-then-not-is_empty c = field-written _ _ _ _ (search rules) (omega (arith, tests, flag_same)) (search rules)
 
-pub returns-else-numbers-ne0 : goal.returns-else-numbers-ne0
-returns-else-numbers-ne0 c = field-empty _ _ _ _ (search rules) (omega (arith, tests, flag_same)) (omega arith)
+pub returns-else-not-is_empty : goal.returns-else-not-is_empty
+returns-else-not-is_empty c = field-empty _ _ _ _ (search rules) (omega (arith, tests, flag_same)) (grind (arith, tests))

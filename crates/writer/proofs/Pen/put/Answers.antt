@@ -1,9 +1,9 @@
--- `writer::put` meets its contract. Assumes nothing.
+-- `writer::Pen::put` meets its contract. Assumes nothing.
 use Prim.Native.Nat.{◌≤◌}
 use lib.Pow.{pow_mono}
 use Rattle.writer.proofs.Pens.{ready-small, emitting-start, emitting-more, emitting-end}
 use native.Mathlib.Omega.{arith}
-use Rattle.writer.proofs.put.Goals as goal
+use Rattle.writer.proofs.Pen.put.Goals as goal
 
 pub shifted-requires : goal.shifted-requires
 shifted-requires c = (search ready-small, omega arith)
