@@ -1,10 +1,11 @@
 -- A group that grows number by number. Assumes nothing.
-use mathlib.Core.Path.{◌≡◌, refl, sym, ap, ap₂, ◌∙◌}
+use mathlib.Core.Path.{◌≡◌, refl, ap, ◌∙◌}
 use mathlib.Core.Bool.{Bool, true, false}
 use mathlib.Core.List.{List, [], ◌∷◌, ◌++◌}
 use Prim.Native.Nat.{ℕ, suc, ◌+◌, ◌-◌, ◌*◌, ◌≤◌, ◌<◌}
 use native.Mathlib.Numerals.{add-one}
 use native.Mathlib.Omega.{arith}
+use borrow.Author.Tests.{le-ltb, lt-ltb, ltb-true, ltb-false}
 use lib.Dec.{ltb}
 use lib.ListN.{length, get_or, take, drop, drop_of_length-le}
 use lib.Seq.{slice, drop-cons, length-slice}
@@ -35,6 +36,11 @@ pub record Open (list : List ℕ) (k added start : ℕ) (w : Window) (wide end :
   pub width : wide ≡ width_of (slice start end list)
   pub narrow : wide ≤ 32
   pub left : groups_of width_of added k (drop start list) ≡ groups_from width_of added k (slice start end list) (drop end list)
+
+-- to cost less than what is gained is to cost less together with what is kept
+by_gain : (cost keep extend : ℕ) (b : Bool) → ltb cost (extend - keep) ≡ b → ltb (keep + cost) extend ≡ b
+by_gain cost keep extend true h = lt-ltb (keep + cost) extend (omega (arith, ltb-true cost (extend - keep) h))
+by_gain cost keep extend false h = le-ltb (keep + cost) extend (omega (arith, ltb-false cost (extend - keep) h))
 
 module _ (list : List ℕ) (k added start : ℕ) where
   -- "A group starts with one number."
@@ -84,8 +90,7 @@ module _ (list : List ℕ) (k added start : ℕ) where
     wider-ordered ex ew = window-ordered (slice start (end + 1) list) (wider ex ew)
 
     module _ {x : ℕ} (ex : x ≡ next) {w' : Window} (ew : w' ≡ widened_by w x) {grown : ℕ} (eg : grown ≡ bits (w'.greatest - w'.least)) (narrow : grown ≤ 32)
-        {kept : ℕ} (e₁ : kept ≡ (end - start) * wide) {extend : ℕ} (e₂ : extend ≡ (end - start + 1) * grown)
-        {ends : Bool} (eb : ends ≡ ltb (kept + added + cost width_of (take k (drop end list))) extend) where
+        {kept : ℕ} (e₁ : kept ≡ (end - start) * wide) {extend : ℕ} (e₂ : extend ≡ (end - start + 1) * grown) {gain : ℕ} (e₃ : gain ≡ extend - (kept + added)) where
       longer : slice start (end + 1) list ≡ slice start end list ++ (next ∷ [])
       longer = slice_snoc list start end 0 (omega (arith, s.some)) l
 
@@ -93,24 +98,25 @@ module _ (list : List ℕ) (k added start : ℕ) where
       wider-width = window-width (slice start (end + 1) list) (wider ex ew) eg
 
       -- the comparison, as the rule has it
-      rule : ends ≡ ends_before width_of added k (slice start end list) next (drop (suc end) list)
+      rule : {b : Bool} → ltb (cost width_of (take k (drop end list))) gain ≡ b → ends_before width_of added k (slice start end list) next (drop (suc end) list) ≡ b
       unfolding ends_before
-      rule =
+      rule {b} h =
           let n : length (slice start end list) ≡ end - start = length-slice start end list s.within in
           let m : length (slice start (end + 1) list) ≡ end - start + 1 = length-slice start (end + 1) list (omega (arith, l)) ∙ omega (arith, s.some) in
           let c₁ : cost width_of (slice start end list) ≡ (end - start) * wide = rw (n, s.width) in
           let c₂ : cost width_of (slice start (end + 1) list) ≡ (end - start + 1) * grown = rw (m, wider-width) in
           let ahead = cost width_of (take k (drop end list)) in
           let a : kept + added + ahead ≡ cost width_of (slice start end list) + (ahead + added) = omega (arith, e₁, c₁) in
-          eb ∙ ap₂ ltb a (e₂ ∙ sym c₂) ∙ rw (drop-cons list end 0 l, longer)
+          rw (← longer, ← drop-cons list end 0 l, ← a, c₂, ← e₂) (by_gain ahead (kept + added) extend b (rw e₃ at h))
 
       -- "the group ends before it"
-      pub ended : ends ≡ true → {g : Group} → g ≡ record { start = start; length = end - start; least = w.least; width = wide } → NextGroup k added list start g
+      pub ended : ltb (cost width_of (take k (drop end list))) gain ≡ true
+          → {g : Group} → g ≡ record { start = start; length = end - start; least = w.least; width = wide } → NextGroup k added list start g
       unfolding groups_from groups_of
-      ended h e = closed s (s.left ∙ rw (drop-cons list end 0 l, ← rule, h)) e
+      ended h e = closed s (s.left ∙ rw (drop-cons list end 0 l, rule h)) e
 
       -- "otherwise it is taken in"
-      pub taken : ends ≡ false → Open list k added start w' grown (end + 1)
+      pub taken : ltb (cost width_of (take k (drop end list))) gain ≡ false → Open list k added start w' grown (end + 1)
       unfolding groups_from
       taken h = record {
         some = omega (arith, s.some);
@@ -118,11 +124,13 @@ module _ (list : List ℕ) (k added start : ℕ) where
         window = wider ex ew;
         width = wider-width;
         narrow = narrow;
-        left = s.left ∙ rw (drop-cons list end 0 l, ← rule, h, longer, add-one);
+        left = s.left ∙ rw (drop-cons list end 0 l, rule h, longer, add-one);
       }
 
   -- at the end of the list there is no other group
   pub last : {w : Window} {wide end : ℕ} → Open list k added start w wide end → {count : ℕ} → count ≡ length list → count ≤ end
-      → {g : Group} → g ≡ record { start = start; length = end - start; least = w.least; width = wide } → NextGroup k added list start g
+      → {g : Group} → g ≡ record { start = start; length = count - start; least = w.least; width = wide } → NextGroup k added list start g
   unfolding groups_from groups_of
-  last {end = end} s n h e = closed s (s.left ∙ rw (drop_of_length-le list {i = end} (omega arith))) e
+  last {end = end} s {count} n h e =
+      let d : count ≡ end = omega (arith, s.within) in
+      closed s (s.left ∙ rw (drop_of_length-le list {i = end} (omega arith))) (rw d at e)

@@ -1,11 +1,10 @@
 -- The rule, as the code follows it: what the look-ahead is asked, what the next group is. Assumes nothing.
-use Rattle.std.specs.Prelude.{◌≡◌, Bool, true, false, List, ◌∷◌, ℕ, ◌+◌, ◌<◌, ◌≤◌, length, get_or, drop}
+use Rattle.std.specs.Prelude.{◌≡◌, List, ◌∷◌, ℕ, ◌+◌, ◌<◌, ◌≤◌, length, get_or, drop}
 use Rattle.std.proofs.Math.Seq.{slice}
 use Rattle.format.specs.Lists.{greatest, least}
 use Rattle.format.specs.Refusals.{limit}
-use Rattle.format.specs.Grouping.{width_of, groups_of, number_refusals}
+use Rattle.format.specs.Grouping.{width_of, groups_of}
 use Rattle.format.specs.declared.Group.{Group}
-use Rattle.laws.specs.First.{Gives, Clear}
 
 -- numbers that are all equal
 abbrev pub Level : List ℕ → Type 0
@@ -20,6 +19,14 @@ pub record Limits (numbers : List ℕ) (k : ℕ) : Type 0 where
   pub few : length numbers ≤ limit
   pub ahead : 0 < k
   pub near : k ≤ 65535
+
+-- the numbers that the look-ahead takes, from `end` as far as `reach`: those before `level` are equal
+pub record Seen (numbers : List ℕ) (end level reach : ℕ) : Type 0 where
+  pub some : end < reach
+  pub far : reach ≤ length numbers
+  pub few : reach ≤ limit
+  pub within : level ≤ reach
+  pub flat : Level (slice end level numbers)
 
 -- the numbers from `end` to `level` are known to be equal
 pub record Known (numbers : List ℕ) (k end level : ℕ) : Type 0 where
@@ -37,11 +44,3 @@ pub record NextGroup (k added : ℕ) (numbers : List ℕ) (at : ℕ) (g : Group)
   pub start : g.start ≡ at
   pub least : g.least ≡ least (slice at (at + g.length) numbers)
   pub width : g.width ≡ width_of (slice at (at + g.length) numbers)
-
--- whether the numbers are refused: 13 is given, or no row gives it
-pub record Tested (k : ℕ) (numbers : List ℕ) (refused : Bool) : Type 0 where
-  pub gives : refused ≡ true → Gives 13 (number_refusals k numbers)
-  pub clear : refused ≡ false → Clear (number_refusals k numbers)
-
-pub record Unrefused (k : ℕ) (numbers : List ℕ) : Type 0 where
-  pub clear : Clear (number_refusals k numbers)

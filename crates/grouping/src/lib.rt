@@ -1,122 +1,135 @@
 // Grouping, after `Groups` of the Rust's encoder: the groups of a list by document 01's rule.
 #![tactic(auto)]
 
-ghost use Rattle.std.specs.Prelude.{◌≡◌, ◌&&◌, ◌+◌, ◌*◌, ◌-◌, ◌<◌, ◌≤◌, ◌^◌, min, max, ltb, leb, length, take, drop};
+ghost use Rattle.std.specs.Prelude.{◌≡◌, ℕ, List, ◌+◌, ◌*◌, ◌-◌, ◌<◌, ◌≤◌, ◌^◌, true, false, refl, MatchOption, MatchResult, ltb, length, take, drop};
 ghost use Rattle.std.proofs.Math.Seq.{slice};
 ghost use Rattle.std.proofs.lemmas.List.Edits.{sets};
-ghost use Rattle.format.specs.Lists.{greatest};
-ghost use Rattle.format.specs.Layout.{numbers_in, group_numbers, numbers_per_group};
-ghost use Rattle.format.specs.Refusals.{limit, left};
-ghost use Rattle.format.specs.Grouping.{width_of, cost, groups_of, records_from, groups_lent, group_numbers_of};
-ghost use Rattle.grouping.specs.Rule.{Level, Stops, Limits, Known, NextGroup, Tested};
+ghost use Rattle.std.proofs.Common.{rules};
+ghost use Rattle.format.specs.Lists.{whole_ones};
+ghost use Rattle.format.specs.Layout.{numbers_in, group_numbers, numbers_per_group, group_octets, group_size};
+ghost use Rattle.format.specs.Refusals.{left, refusal_number};
+ghost use Rattle.format.specs.Grouping.{width_of, cost, groups_of, records_from, groups_lent, group_numbers_of, number_refusals};
+ghost use Rattle.format.specs.declared.Group.{Group};
+ghost use Rattle.laws.specs.First.{Gives, Clear};
+ghost use Rattle.laws.specs.Groups.{group-size};
+ghost use Rattle.grouping.specs.Rule.{Level, Stops, Limits, Seen, Known, NextGroup};
 
-use format::{Group, Grouped, Refusal};
+use format::{Group, NUMBERS_PER_GROUP, Refusal};
+use layout::InOctets;
+use numbers::{Numbers, Window};
 
-// Where the look-ahead from a place ends: "up to k numbers from that one on".
-fn reach_of(end: usize, lookahead: usize, count: usize) -> usize
-    requires { (end < count) × (lookahead ≤ 65535) }
-    ensures { result ≡ end + min lookahead (count - end) }
-{
-    let left = count - end;
-    if lookahead < left {
-        return end + lookahead;
+// What a lent list of groups is made of: numbers, four a group, or octets.
+pub trait Slot {
+    ghost PER_GROUP: { ℕ };
+
+    ghost stored: { Group → List ℕ };
+
+    ghost items: { List Self → List ℕ };
+
+    const PER_GROUP: usize;
+
+    // Stores group k.
+    fn store(slots: &mut [Self], k: usize, group: Group)
+        requires { (k + 1) * PER_GROUP ≤ length (items slots.old) }
+        ensures { items slots.new ≡ sets (items slots.old) (k * PER_GROUP) (stored group) };
+
+    // How many groups there is room for.
+    final fn room(slots: &[Self]) -> usize
+        ensures { result ≡ whole_ones PER_GROUP (items slots.now) }
+    {
+        slots.len() / Self::PER_GROUP
     }
-    count
+
+    ghost some: { 0 < PER_GROUP };
+
+    ghost each: { (g : Group) → length (stored g) ≡ PER_GROUP };
+
+    ghost long: { (slots : List Self) → length (items slots) ≡ length slots };
 }
 
-// The first place that is not known to hold the same number as `end`.
-fn behind(end: usize, level: usize) -> usize
-    requires { end < 2 ^ 63 }
-    ensures { result ≡ max (end + 1) level }
-{
-    if level <= end { end + 1 } else { level }
-}
+// "four numbers each: start, length, least number, width"
+impl Slot for u32 {
+    ghost PER_GROUP = { numbers_per_group };
 
-// How far the numbers from `end` on are equal, as far as the look-ahead reaches; those before `level` are known to be.
-fn level_end(numbers: &[u8], end: usize, level: usize, reach: usize) -> usize
-    requires { (end < reach) × (level ≤ reach) × (reach ≤ length (numbers_in numbers.now)) × (reach ≤ limit) × Level (slice end level (numbers_in numbers.now)) }
-    ensures { (end < result) × (result ≤ reach) × Level (slice end result (numbers_in numbers.now)) × Stops (numbers_in numbers.now) end result reach }
-{
-    let first = numbers::number_at(numbers, end);
-    let mut i = behind(end, level);
-    while i < reach {
-        if numbers::number_at(numbers, i) != first {
-            return i;
-        }
-        i += 1;
+    ghost stored = { group_numbers };
+
+    ghost items = { λ slots. slots };
+
+    ghost some = { Prim.search rules };
+
+    ghost each = { λ g. refl };
+
+    ghost long = { λ slots. refl };
+
+    const PER_GROUP: usize = NUMBERS_PER_GROUP;
+
+    fn store(slots: &mut [u32], k: usize, group: Group) {
+        let numbers = [group.start, group.length, group.least, group.width];
+        let at = k * NUMBERS_PER_GROUP;
+        slots[at..at + NUMBERS_PER_GROUP].copy_from_slice(&numbers);
     }
-    i
 }
 
-// Whether ending the group costs less, the look-ahead's cost being added to `keep`. A longer piece has no smaller range: what
-// is too dear already stays so, and the look-ahead stops. The numbers from `end` to `level` are equal.
-fn is_less(
-    numbers: &[u8],
+// "each of a group's four numbers take four octets"
+impl Slot for u8 {
+    ghost PER_GROUP = { group_size };
+
+    ghost stored = { group_octets };
+
+    ghost items = { λ slots. slots };
+
+    ghost some = { Prim.search rules };
+
+    ghost each = { group-size };
+
+    ghost long = { λ slots. refl };
+
+    const PER_GROUP: usize = Group::SIZE;
+
+    fn store(slots: &mut [u8], k: usize, group: Group) {
+        group.store(slots, k);
+    }
+}
+
+// The numbers that the look-ahead takes, from `end` as far as `reach`. Those before `level` are known to be equal.
+#[derive(Clone, Copy)]
+struct Ahead<'a> {
+    numbers: &'a Numbers<'a>,
     end: usize,
     level: usize,
     reach: usize,
-    keep: usize,
-    extend: usize,
-) -> bool
-    requires end_lt_level { (end < level) × (level ≤ reach) × (reach ≤ length (numbers_in numbers.now)) × (reach ≤ end + 65535) × Level (slice end level (numbers_in numbers.now)) }
-    requires keep_lt_extend { (keep < extend) × (extend < 2 ^ 32) }
-    ensures { result ≡ ltb (keep + cost width_of (slice end reach (numbers_in numbers.now))) extend }
-{
-    let count = reach - end;
-    let mut window = numbers::window_of(numbers::number_at(numbers, end));
-    let mut i = level;
-    while i < reach {
-        window = numbers::widened(window, numbers::number_at(numbers, i));
-        if extend <= keep + places::times(count, numbers::width(window)) {
-            return false;
+    ghost seen: { Seen numbers.now end level reach },
+}
+
+impl<'a> Ahead<'a> {
+    // How far they are equal.
+    fn level_end(&self) -> usize
+        ensures { (self.now.end < result) × (result ≤ self.now.reach) × Level (slice self.now.end result self.now.numbers.now) × Stops self.now.numbers.now self.now.end result self.now.reach }
+    {
+        let first = self.numbers.at(self.end);
+        for i in (self.end + 1).max(self.level)..self.reach {
+            if self.numbers.at(i) != first {
+                return i;
+            }
         }
-        i += 1;
+        self.reach
     }
-    true
-}
 
-// Whether one bit for each number ahead is too dear already, and they are not all equal.
-fn is_dear(end: usize, level: usize, reach: usize, keep: usize, extend: usize) -> bool
-    requires { (end ≤ reach) × (reach < 2 ^ 32) × (keep < 2 ^ 32) }
-    ensures { result ≡ (ltb level reach && leb extend (keep + (reach - end))) }
-{
-    level < reach && extend <= keep + (reach - end)
-}
-
-// What looking ahead comes to: whether the group ends, and how far the next numbers are known to be equal.
-#[derive(Clone, Copy)]
-pub struct Look {
-    pub ends: bool,
-    pub level: usize,
-}
-
-// `keep` is the cost of the group as it is and of ending it, `extend` its cost with the next number taken in. Where taking it
-// in costs no more at all, nothing is looked at.
-fn look_ahead(
-    numbers: &[u8],
-    lookahead: usize,
-    end: usize,
-    level: usize,
-    keep: usize,
-    extend: usize,
-) -> Look
-    requires { Limits (numbers_in numbers.now) lookahead × Known (numbers_in numbers.now) lookahead end level × (end < length (numbers_in numbers.now)) × (extend < 2 ^ 32) }
-    ensures { (result.ends ≡ ltb (keep + cost width_of (take lookahead (drop end (numbers_in numbers.now)))) extend) × Known (numbers_in numbers.now) lookahead end result.level }
-{
-    if extend <= keep {
-        return Look { ends: false, level };
-    }
-    let reach = reach_of(end, lookahead, numbers::count_of(numbers));
-    let known = level_end(numbers, end, level, reach);
-    if is_dear(end, known, reach, keep, extend) {
-        return Look {
-            ends: false,
-            level: known,
-        };
-    }
-    Look {
-        ends: is_less(numbers, end, known, reach, keep, extend),
-        level: known,
+    // Whether they cost less than that. A longer piece has no smaller range: what is too dear already stays so, and the
+    // look-ahead stops.
+    fn is_less(&self, gain: usize) -> bool
+        requires { (self.now.end < self.now.level) × (0 < gain) }
+        ensures { result ≡ ltb (cost width_of (slice self.now.end self.now.reach self.now.numbers.now)) gain }
+    {
+        let count = self.reach - self.end;
+        let mut window = Window::of(self.numbers.at(self.end));
+        for i in self.level..self.reach {
+            window = window.widened(self.numbers.at(i));
+            if gain <= places::times(count, window.width()) {
+                return false;
+            }
+        }
+        true
     }
 }
 
@@ -132,94 +145,117 @@ fn group_of(start: usize, end: usize, least: u32, width: usize) -> Group
     }
 }
 
-// "If len·w + that cost is less than (len + 1)·w', the group ends before it; otherwise it is taken in.": the group that starts
-// at a place. `added` is what ending a group costs besides; document 01's rule adds nothing.
-pub fn next_group(numbers: &[u8], lookahead: usize, added: usize, start: usize) -> Group
-    requires { Limits (numbers_in numbers.now) lookahead × (added ≤ 65535) × (start < length (numbers_in numbers.now)) }
-    ensures { NextGroup lookahead added (numbers_in numbers.now) start result }
-{
-    let count = numbers::count_of(numbers);
-    let mut window = numbers::window_of(numbers::number_at(numbers, start));
-    let mut wide = numbers::width(window);
-    let mut end = start + 1;
-    let mut level = end;
-    while end < count {
-        let wider = numbers::widened(window, numbers::number_at(numbers, end));
-        let grown = numbers::width(wider);
-        let keep = places::times(end - start, wide) + added;
-        let extend = places::times(end - start + 1, grown);
-        let look = look_ahead(numbers, lookahead, end, level, keep, extend);
-        if look.ends {
-            return group_of(start, end, window.least, wide);
+// Which numbers are put into groups, how far is looked ahead, and what ending a group costs besides; document 01's rule adds
+// nothing.
+#[derive(Clone, Copy)]
+pub struct Rule<'a> {
+    pub numbers: &'a Numbers<'a>,
+    pub lookahead: usize,
+    pub added: u16,
+    ghost limits: { Limits numbers.now lookahead },
+}
+
+impl<'a> Rule<'a> {
+    // "packing: list empty or above 4,194,304 numbers, a number above 2,147,483,647, lookahead outside 1 to 65,535"
+    pub fn of(numbers: &'a Numbers<'a>, lookahead: u32, added: u16) -> Result<Rule<'a>, Refusal>
+        ensures { MatchResult result (λ rule. Clear (number_refusals lookahead numbers.now) × (rule.numbers.now ≡ numbers.now) × (rule.lookahead ≡ lookahead) × (rule.added ≡ added)) (λ refusal. Gives (refusal_number refusal) (number_refusals lookahead numbers.now)) }
+    {
+        let count = numbers.len();
+        if count == 0 || (format::LIMIT as usize) < count {
+            return Err(Refusal::Numbers);
         }
-        level = look.level;
-        window = wider;
-        wide = grown;
-        end += 1;
-    }
-    group_of(start, end, window.least, wide)
-}
-
-// "packing: list empty or above 4,194,304 numbers, a number above 2,147,483,647, lookahead outside 1 to 65,535"
-pub fn is_refused(numbers: &[u8], top: u32, lookahead: u32) -> bool
-    requires { top ≡ greatest (numbers_in numbers.now) }
-    ensures { Tested lookahead (numbers_in numbers.now) result }
-{
-    let count = numbers::count_of(numbers);
-    if places::size(format::LIMIT) < count {
-        return true;
-    }
-    if 2147483647 < top {
-        return true;
-    }
-    if 65535 < lookahead {
-        return true;
-    }
-    if count == 0 {
-        return true;
-    }
-    lookahead == 0
-}
-
-// Group k, "four numbers each: start, length, least number, width".
-fn store_slot(slots: &mut [u32], k: usize, group: Group)
-    requires { (k + 1) * numbers_per_group ≤ length slots.old }
-    ensures { slots.new ≡ sets slots.old (k * numbers_per_group) (group_numbers group) }
-{
-    let at = k * format::NUMBERS_PER_GROUP;
-    slots[at] = group.start;
-    slots[at + 1] = group.length;
-    slots[at + 2] = group.least;
-    slots[at + 3] = group.width;
-}
-
-// The groups of a list in lent slots. "10 for the group list leaves the first groups in all lent slots"
-fn fill_slots(numbers: &[u8], lookahead: usize, added: usize, slots: &mut [u32]) -> Grouped
-    requires { Limits (numbers_in numbers.now) lookahead × (added ≤ 65535) }
-    ensures { left result slots.new ≡ groups_lent group_numbers numbers_per_group (records_from 0 (groups_of width_of added lookahead (numbers_in numbers.now))) slots.old }
-{
-    let count = numbers::count_of(numbers);
-    let room = slots.len() / format::NUMBERS_PER_GROUP;
-    let mut start = 0usize;
-    let mut k = 0usize;
-    while start < count {
-        if room <= k {
-            return Grouped::Refused(Refusal::Room);
+        if 2147483647 < numbers.greatest() {
+            return Err(Refusal::Numbers);
         }
-        let group = next_group(numbers, lookahead, added, start);
-        store_slot(slots, k, group);
-        start += places::size(group.length);
-        k += 1;
+        if lookahead == 0 || 65535 < lookahead {
+            return Err(Refusal::Numbers);
+        }
+        Ok(Rule {
+            numbers,
+            lookahead: lookahead as usize,
+            added,
+        })
     }
-    Grouped::Groups(k as u32)
+
+    // Looks at the numbers from `end` on, of which those before `level` are known to be equal: whether they cost less than what
+    // ending the group there gains, and it ends; or else how far they are known to be equal now.
+    fn look_ahead(&self, end: usize, level: usize, gain: usize) -> Option<usize>
+        requires { Known self.now.numbers.now self.now.lookahead end level × (end < length self.now.numbers.now) }
+        ensures { let less = ltb (cost width_of (take self.now.lookahead (drop end self.now.numbers.now))) gain in MatchOption result (less ≡ true) (λ known. (less ≡ false) × Known self.now.numbers.now self.now.lookahead end known) }
+    {
+        if gain == 0 {
+            return Some(level);
+        }
+        let reach = end + self.lookahead.min(self.numbers.len() - end);
+        let mut ahead = Ahead {
+            numbers: self.numbers,
+            end,
+            level,
+            reach,
+        };
+        ahead.level = ahead.level_end();
+        // One bit for each number is too dear already, and they are not all equal.
+        if ahead.level < reach && gain <= reach - end {
+            return Some(ahead.level);
+        }
+        if ahead.is_less(gain) {
+            None
+        } else {
+            Some(ahead.level)
+        }
+    }
+
+    // "If len·w + that cost is less than (len + 1)·w', the group ends before it; otherwise it is taken in.": the group that
+    // starts at a place.
+    pub fn next_group(&self, start: usize) -> Group
+        requires { start < length self.now.numbers.now }
+        ensures { NextGroup self.now.lookahead self.now.added self.now.numbers.now start result }
+    {
+        let numbers = self.numbers;
+        let count = numbers.len();
+        let mut window = Window::of(numbers.at(start));
+        let mut width = window.width();
+        let mut level = start + 1;
+        for end in start + 1..count {
+            let wider = window.widened(numbers.at(end));
+            let grown = wider.width();
+            let keep = places::times(end - start, width) + self.added as usize;
+            let extend = places::times(end - start + 1, grown);
+            match self.look_ahead(end, level, extend.saturating_sub(keep)) {
+                None => return group_of(start, end, window.least, width),
+                Some(known) => level = known,
+            }
+            window = wider;
+            width = grown;
+        }
+        group_of(start, count, window.least, width)
+    }
+
+    // The groups in a lent list. "10 for the group list leaves the first groups in all lent slots"
+    pub fn store_groups<S: Slot>(&self, slots: &mut [S]) -> Result<u32, Refusal>
+        ensures { left result (S.items slots.new) ≡ groups_lent S.stored S.PER_GROUP (records_from 0 (groups_of width_of self.now.added self.now.lookahead self.now.numbers.now)) (S.items slots.old) }
+    {
+        let count = self.numbers.len();
+        let room = S::room(slots);
+        let mut start = 0;
+        let mut k = 0;
+        while start < count {
+            if room <= k {
+                return Err(Refusal::Room);
+            }
+            let group = self.next_group(start);
+            S::store(slots, k, group);
+            start += group.length as usize;
+            k += 1;
+        }
+        Ok(k as u32)
+    }
 }
 
 // The groups of a list by document 01's rule, which adds no cost, in lent slots of four numbers each.
-pub fn groups_of(numbers: &[u8], lookahead: u32, slots: &mut [u32]) -> Grouped
-    ensures { left result slots.new ≡ group_numbers_of lookahead (numbers_in numbers.now) slots.old }
+pub fn groups_of(octets: &[u8], lookahead: u32, slots: &mut [u32]) -> Result<u32, Refusal>
+    ensures { left result slots.new ≡ group_numbers_of lookahead (numbers_in octets.now) slots.old }
 {
-    if is_refused(numbers, numbers::greatest_of(numbers), lookahead) {
-        return Grouped::Refused(Refusal::Numbers);
-    }
-    fill_slots(numbers, places::size(lookahead), 0, slots)
+    let numbers = Numbers::of(octets);
+    Rule::of(&numbers, lookahead, 0)?.store_groups(slots)
 }
