@@ -1,3 +1,4 @@
+pub mod Checks
 pub mod Walked
 pub mod Order
 pub mod Parts

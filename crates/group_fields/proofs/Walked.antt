@@ -1,7 +1,7 @@
 -- The walk over all groups decides 8, and 7 for the values, and finds the group that holds a place. Assumes nothing.
-use mathlib.Core.Path.{◌≡◌, refl, sym, ap, ◌∙◌}
+use mathlib.Core.Path.{◌≡◌, refl, ap, ◌∙◌}
 use mathlib.Core.Bool.{Bool, true, false, cond, and-false, or-true}
-use Prim.Native.Nat.{ℕ, suc, ◌+◌, ◌^◌, ◌≤◌, ◌<◌}
+use Prim.Native.Nat.{ℕ, suc, ◌+◌, ◌≤◌, ◌<◌}
 use native.Mathlib.Omega.{arith}
 use lib.Dec.{leb}
 use lib.ListN.{length, get_or, drop}
@@ -18,8 +18,10 @@ use Rattle.groups.specs.declared.Walk.{Walk}
 use Rattle.groups.specs.Walk.{Walking, holder_walk, at_first, Further}
 use Rattle.groups.proofs.Walking.{walking_start, walking-step, holder-start, holder-step}
 use Rattle.group_fields.specs.Surveying.{surveyed_by}
+use Rattle.std.specs.declared.result.Result.{Result}
+use Rattle.std.specs.declared.result.Result.TheVariants.{Ok, Err}
+use Rattle.format.specs.declared.Refusal.{Refusal}
 use Rattle.group_fields.specs.declared.Surveyed.{Surveyed}
-use Rattle.group_fields.specs.declared.Surveyed.TheVariants as surveyed
 
 -- ---- which group is wrong
 
@@ -43,65 +45,66 @@ wrong_from t codes g = any_of (wrong_group t codes) (drop g (listed t.groups (λ
 -- ---- the walk
 
 -- none of the groups that are walked is wrong: those left decide
-pub record Walked (t : Template) (codes : Codes) (place : ℕ) (holder walk : Walk) : Type 0 where
+pub record Walked (t : Template) (codes : Codes) (place : ℕ) (holder walk : Walk) (g : ℕ) : Type 0 where
+  pub at : walk.group ≡ g
   pub walking : Walking t codes walk
-  pub right : wrong_from t codes 0 ≡ wrong_from t codes walk.group
-  pub holder-is : holder ≡ holder_walk t codes place walk.group
+  pub right : wrong_from t codes 0 ≡ wrong_from t codes g
+  pub holder-is : holder ≡ holder_walk t codes place g
 
-pub walked_start : (t : Template) (codes : Codes) (place : ℕ) → Walked t codes place at_first at_first
-walked_start t codes place = record { walking = walking_start; right = refl; holder-is = holder-start t codes place }
+pub walked_start : (t : Template) (codes : Codes) (place : ℕ) → Walked t codes place at_first at_first 0
+walked_start t codes place = record { at = refl; walking = walking_start; right = refl; holder-is = holder-start t codes place }
 
-module _ {t : Template} {codes : Codes} {place : ℕ} {holder walk : Walk} {n : ℕ} (w : Walked t codes place holder walk) (en : (n ≡ t.groups) × (n < 2 ^ 32)) where
-  abbrev answer : ℕ → ℕ → Surveyed
+module _ {t : Template} {codes : Codes} {place : ℕ} {holder walk : Walk} {g : ℕ} (w : Walked t codes place holder walk g) where
+  abbrev answer : ℕ → ℕ → Result Surveyed Refusal
   answer start octets = surveyed_by (group_refusals start t octets codes) start t codes place
 
-  module _ (l : walk.group < n) where
-    here : (b : Bool) → wrong_group t codes walk.group ≡ b → wrong_group t codes (get_or (listed t.groups (λ k. k)) walk.group 0) ≡ b
-    here b e = rw (get_or-listed t.groups (λ k. k) 0 walk.group (omega arith)) e
+  module _ (l : g < t.groups) where
+    here : (b : Bool) → wrong_group t codes g ≡ b → wrong_group t codes (get_or (listed t.groups (λ k. k)) g 0) ≡ b
+    here b e = rw (get_or-listed t.groups (λ k. k) 0 g l) e
 
-    among : walk.group < length (listed t.groups (λ (k : ℕ). k))
+    among : g < length (listed t.groups (λ (k : ℕ). k))
     among = omega (arith, length-listed t.groups (λ (k : ℕ). k))
 
-    wrong : (start octets : ℕ) → wrong_group t codes walk.group ≡ true → surveyed.Refused GroupSize ≡ answer start octets
+    wrong : (start octets : ℕ) → wrong_group t codes g ≡ true → Err GroupSize ≡ answer start octets
     unfolding first
-    wrong start octets e = rw (any_here (wrong_group t codes) (listed t.groups (λ k. k)) 0 walk.group among (here true e))
+    wrong start octets e = rw (any_here (wrong_group t codes) (listed t.groups (λ k. k)) 0 g among (here true e))
 
-    module _ {width : ℕ} (ew : width ≡ group_width t codes walk.group) where
-      pub walked-wide : (start octets : ℕ) → 31 < width → surveyed.Refused GroupSize ≡ answer start octets
-      walked-wide start octets m = wrong start octets (too_wide t codes walk.group (omega arith))
+    module _ {width : ℕ} (ew : width ≡ group_width t codes g) where
+      pub walked-wide : (start octets : ℕ) → 31 < width → Err GroupSize ≡ answer start octets
+      walked-wide start octets m = wrong start octets (too_wide t codes g (omega arith))
 
-      module _ {length : ℕ} (el : length ≡ group_length t codes walk.group) where
+      module _ {length : ℕ} (el : length ≡ group_length t codes g) where
         pub walked_more : {next nearer : Walk} → width ≤ 31 → length ≤ 4294967295 → nearer ≡ cond (leb walk.points place) walk holder
-            → Further walk width length next → Walked t codes place nearer next
+            → Further walk width length next → Walked t codes place nearer next (g + 1)
         walked_more mw ml eh e = record {
-          walking = walking-step w.walking (omega arith) ew el mw ml e;
-          right =
-              w.right ∙ any-later (wrong_group t codes) (listed t.groups (λ k. k)) 0 walk.group among (here false (neither t codes walk.group (omega arith) (omega arith)))
-              ∙ ap (wrong_from t codes) (sym e.group);
-          holder-is = holder-step t codes place w.walking w.holder-is eh e;
+          at = rw (e.group, w.at);
+          walking = walking-step w.walking (omega (arith, w.at)) (rw w.at ew) (rw w.at el) mw ml e;
+          right = w.right ∙ any-later (wrong_group t codes) (listed t.groups (λ k. k)) 0 g among (here false (neither t codes g (omega arith) (omega arith)));
+          holder-is = rw (← w.at, ← e.group) (holder-step t codes place w.walking (rw w.at w.holder-is) eh e);
         }
 
     -- the last length is none that is too long
-    pub walked-long : (start octets : ℕ) {length : ℕ} → (length ≡ group_length t codes walk.group) × (t.groups ≤ walk.group + 1 → length ≤ 4294967295) → 4294967295 < length → surveyed.Refused GroupSize ≡ answer start octets
+    pub walked-long : (start octets : ℕ) {length : ℕ} → (length ≡ group_length t codes g) × (t.groups ≤ g + 1 → length ≤ 4294967295) → 4294967295 < length → Err GroupSize ≡ answer start octets
     walked-long start octets {length} e m =
-        let last : (t.groups ≤ walk.group + 1 → ⊥) = λ z. omega (arith, e.1 z) in
-        wrong start octets (too_long t codes walk.group (omega arith) (omega arith))
+        let last : (t.groups ≤ g + 1 → ⊥) = λ z. omega (arith, e.1 z) in
+        wrong start octets (too_long t codes g (omega arith) (omega arith))
 
-  module _ (start octets : ℕ) (m : n ≤ walk.group) {p : Places} (ep : p ≡ places_of start t walk.bits) where
-    done : walk.group ≡ t.groups
-    done = omega (arith, w.walking.some)
+  module _ (start octets : ℕ) (m : t.groups ≤ g) {p : Places} (ep : p ≡ places_of start t walk.bits) where
+    done : g ≡ t.groups
+    done = omega (arith, w.at, w.walking.some)
 
     none : wrong_from t codes 0 ≡ false
-    none = w.right ∙ any-end (wrong_group t codes) (listed t.groups (λ k. k)) walk.group (omega (arith, length-listed t.groups (λ (k : ℕ). k)))
+    none = w.right ∙ any-end (wrong_group t codes) (listed t.groups (λ k. k)) g (omega (arith, length-listed t.groups (λ (k : ℕ). k)))
 
     places-are : p ≡ places_of start t (bits_before t codes t.groups)
-    places-are = ep ∙ ap (places_of start t) (w.walking.size ∙ rw done)
+    places-are = ep ∙ ap (places_of start t) (w.walking.size ∙ rw (w.at, done))
 
     end_is : p.end.0 ≡ (places_of start t (bits_before t codes t.groups)).end.0
     end_is = ap (λ (q : Places). q.end.0) places-are
 
-    pub walked-short : octets < p.end.0 → surveyed.Refused Short ≡ answer start octets
-    walked-short l = decides surveyed.Refused Short (group_refusals start t octets codes) _ (omega (arith, tests, none, end_is))
+    pub walked-short : octets < p.end.0 → Err Short ≡ answer start octets
+    walked-short l = decides Err Short (group_refusals start t octets codes) _ (omega (arith, tests, none, end_is))
 
-    pub walked_at : p.end.0 ≤ octets → surveyed.At p walk.points holder ≡ answer start octets
-    walked_at l = rw (places-are, w.walking.count, w.holder-is, done) (clears surveyed.Refused (group_refusals start t octets codes) _ (omega (arith, tests, none, end_is)))
+    pub walked_at : p.end.0 ≤ octets → Ok (record { places = p; points = walk.points; holder = holder }) ≡ answer start octets
+    walked_at l =
+        rw (places-are, w.walking.count, w.holder-is, w.at, done) (clears Err (group_refusals start t octets codes) _ (omega (arith, tests, none, end_is)))

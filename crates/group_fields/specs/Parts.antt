@@ -1,19 +1,10 @@
--- Where a part begins and ends. Assumes nothing.
+-- The parts of a payload follow each other. Assumes nothing.
 use Rattle.std.specs.Prelude.{ℕ, ◌≤◌}
-use Rattle.format.specs.declared.Part.{Part}
-use Rattle.format.specs.declared.Part.TheVariants.{References, Widths, Lengths, Values}
+use Rattle.std.specs.declared.result.Result.{Result}
+use Rattle.std.specs.declared.result.Result.TheVariants.{Ok, Err}
 use Rattle.format.specs.declared.Places.{Places}
 use Rattle.format.specs.declared.Located.{Located}
-use Rattle.format.specs.declared.Located.TheVariants as located
-use Rattle.group_fields.specs.declared.Bounds.{Bounds}
-
--- a payload that is refused has none
-abbrev pub bounds_of : Part → Located → Bounds
-bounds_of References (located.At p n) = record { from = p.references; to = p.widths }
-bounds_of Widths (located.At p n) = record { from = p.widths; to = p.lengths }
-bounds_of Lengths (located.At p n) = record { from = p.lengths; to = p.values }
-bounds_of Values (located.At p n) = record { from = p.values; to = p.end }
-bounds_of part (located.Refused r) = record { from = record { 0 = 0 }; to = record { 0 = 0 } }
+use Rattle.format.specs.declared.Refusal.{Refusal}
 
 -- some places follow each other, and end within so many octets
 pub record Ordered (octets : ℕ) (p : Places) : Type 0 where
@@ -24,6 +15,6 @@ pub record Ordered (octets : ℕ) (p : Places) : Type 0 where
   pub end : p.end.0 ≤ octets
 
 -- so do the parts of a payload that is not refused
-abbrev pub OrderedIn : ℕ → Located → Type 0
-OrderedIn octets (located.At p n) = Ordered octets p
-OrderedIn octets (located.Refused r) = Unit
+abbrev pub OrderedIn : ℕ → Result Located Refusal → Type 0
+OrderedIn octets (Ok l) = Ordered octets l.places
+OrderedIn octets (Err r) = Unit

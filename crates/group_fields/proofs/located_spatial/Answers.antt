@@ -1,8 +1,11 @@
 -- `group_fields::located_spatial` meets its contract. Assumes nothing.
 use mathlib.Core.Path.{◌∙◌}
+use Rattle.std.proofs.lemmas.Result.{err_from_is_err_and}
+use Rattle.format.specs.Template.{kind_refusals}
 use Rattle.format.specs.Differences.{locate53}
 use Rattle.laws.specs.First.{decides, leaves, tests}
-use Rattle.group_fields.proofs.Order.{located-by}
+use Rattle.group_fields.proofs.Checks.{check-refused, check-passed}
+use Rattle.group_fields.proofs.Order.{map_located, located-by}
 use native.Mathlib.Omega.{arith}
 use Rattle.group_fields.proofs.located_spatial.Goals as goal
 
@@ -10,30 +13,27 @@ pub returns-then-differencing-eq0 : goal.returns-then-differencing-eq0
 unfolding locate53
 returns-then-differencing-eq0 c = decides _ _ _ _ (omega (arith, tests))
 
-pub returns-then-differencing-gt2 : goal.returns-then-differencing-gt2
+pub returns-in_err-check_kind : goal.returns-in_err-check_kind
 unfolding locate53
-returns-then-differencing-gt2 c = decides _ _ _ _ (omega (arith, tests))
-
-pub returns-then-template-ne1 : goal.returns-then-template-ne1
-unfolding locate53
-returns-then-template-ne1 c = decides _ _ _ _ (omega (arith, tests))
-
-pub returns-then-template-gt2 : goal.returns-then-template-gt2
-unfolding locate53
-returns-then-template-gt2 c = decides _ _ _ _ (omega (arith, tests))
+returns-in_err-check_kind c =
+    let p = err_from_is_err_and c.from_residual.result c.from_residual.ensures.1 in
+    rw (p.1, p.2) (check-refused _ _ (kind_refusals c.args.template) c.check_kind.ensures c.in_err-check_kind.was ∙ leaves _ 2 _ _ (omega (arith, tests)))
 
 pub returns-then-differencing-eq0-2 : goal.returns-then-differencing-eq0-2
 unfolding locate53
-returns-then-differencing-eq0-2 c = decides _ _ _ _ (omega (arith, tests))
-
-pub returns-then-differencing-gt4 : goal.returns-then-differencing-gt4
-unfolding locate53
-returns-then-differencing-gt4 c = decides _ _ _ _ (omega (arith, tests))
+returns-then-differencing-eq0-2 c =
+    let kind = check-passed (kind_refusals c.args.template) c.check_kind.ensures c.in_ok-check_kind.was in
+    decides _ _ _ _ (omega (arith, tests))
 
 pub returns-then-payload-start : goal.returns-then-payload-start
 unfolding locate53
-returns-then-payload-start c = decides _ _ _ _ (omega (arith, tests))
+returns-then-payload-start c =
+    let kind = check-passed (kind_refusals c.args.template) c.check_kind.ensures c.in_ok-check_kind.was in
+    decides _ _ _ _ (omega (arith, tests))
 
 pub returns : goal.returns
 unfolding locate53
-returns c = rw (← c.descriptors_end-start.ensures.0) (located-by _ _ _ _ 0 c.surveyed_from.ensures c.located_of.ensures ∙ leaves _ 7 _ _ (omega (arith, tests)))
+returns c =
+    let kind = check-passed (kind_refusals c.args.template) c.check_kind.ensures c.in_ok-check_kind.was in
+    rw (← c.descriptors_end-start.ensures.0)
+    (map_located _ c.map.result c.map.ensures.cases ∙ located-by _ _ _ _ 0 c.surveyed_from.ensures ∙ leaves _ 7 _ _ (omega (arith, tests)))

@@ -1,23 +1,25 @@
 -- `group_fields::surveyed_from` meets its contract. Assumes nothing.
-use mathlib.Core.Path.{◌∙◌}
-use Rattle.laws.specs.First.{decides, leaves, tests}
+use Rattle.std.proofs.lemmas.Result.{err_from_is_err_and}
+use Rattle.format.specs.Template.{field_refusals}
+use Rattle.laws.specs.Accepting.{laid}
+use Rattle.group_fields.proofs.Checks.{check-refused}
+use Rattle.group_fields.proofs.Order.{passing, fields-short, fields-there}
 use native.Mathlib.Omega.{arith}
 use Rattle.group_fields.proofs.surveyed_from.Goals as goal
 
-pub returns-then-template-eq0 : goal.returns-then-template-eq0
-returns-then-template-eq0 c = decides _ _ _ _ (omega (arith, tests))
+pub returns-in_err-check_fields : goal.returns-in_err-check_fields
+returns-in_err-check_fields c =
+    let p = err_from_is_err_and c.from_residual.result c.from_residual.ensures.1 in
+    rw (p.1, p.2) (check-refused _ _ (field_refusals c.args.template) c.check_fields.ensures c.in_err-check_fields.was)
 
-pub returns-then-template-gt-LIMIT : goal.returns-then-template-gt-LIMIT
-returns-then-template-gt-LIMIT c = decides _ _ _ _ (omega (arith, tests))
+pub parts_of-places-requires : goal.parts_of-places-requires
+parts_of-places-requires c = (passing _ c.check_fields.ensures c.in_ok-check_fields.was, omega arith, omega arith)
 
-pub returns-then-template-gt31 : goal.returns-then-template-gt31
-returns-then-template-gt31 c = decides _ _ _ _ (omega (arith, tests))
+pub returns-then-payload-places : goal.returns-then-payload-places
+returns-then-payload-places c = fields-short _ c.check_fields.ensures c.in_ok-check_fields.was _ _ _ c.parts_of-places.ensures c.if-payload-places.true
 
-pub returns-then-template-gt32 : goal.returns-then-template-gt32
-returns-then-template-gt32 c = decides _ _ _ _ (omega (arith, tests))
-
-pub returns-then-template-gt32-2 : goal.returns-then-template-gt32-2
-returns-then-template-gt32-2 c = decides _ _ _ _ (omega (arith, tests))
+pub invariant_of-groups : goal.invariant_of-groups
+invariant_of-groups c = record { laid = laid _ _ (passing _ c.check_fields.ensures c.in_ok-check_fields.was) (omega arith) c.parts_of-places.ensures }
 
 pub returns : goal.returns
-returns c = c.fields_surveyed.ensures ∙ leaves _ 5 _ _ (omega (arith, tests))
+returns c = fields-there _ c.check_fields.ensures c.in_ok-check_fields.was _ _ _ c.parts_of-places.ensures c.if-payload-places.false c.groups_surveyed.ensures
