@@ -13,7 +13,7 @@ use format::{BitPlace, OctetPlace, Places, Template};
 pub fn octets_to(place: BitPlace) -> OctetPlace
     ensures { result.0 ≡ rounded_up place.0 }
 {
-    OctetPlace(place.0 / 8 + (place.0 % 8 + 7) / 8)
+    OctetPlace(place.0.div_ceil(8))
 }
 
 // The octet that a place in bits lies in.
@@ -52,10 +52,7 @@ pub fn span(start: BitPlace, width: usize, count: usize) -> OctetPlace
     requires { (start.0 ≤ 7) × (width ≤ 32) × (count < 2 ^ 61) }
     ensures { result.0 ≡ span_of start.0 width count }
 {
-    if count == 0 {
-        return OctetPlace(0);
-    }
-    if width == 0 {
+    if count == 0 || width == 0 {
         return OctetPlace(0);
     }
     OctetPlace(times(count / 8, width) + (start.0 + times(count % 8, width) + 7) / 8)
@@ -66,7 +63,7 @@ fn field(groups: u32, width: u8) -> usize
     requires { width ≤ 32 }
     ensures { (result ≡ span_of 0 width groups) × (result < 2 ^ 40) }
 {
-    span(BitPlace(0), small(width), size(groups)).0
+    span(BitPlace(0), width as usize, groups as usize).0
 }
 
 // "each starting on an octet": where the parts of a payload are, the references at octet `start`, when the values take so many
@@ -142,5 +139,5 @@ pub fn grown(x: u32) -> u64
 pub fn bits(x: u32) -> u32
     ensures { (result ≡ bits x) × (result ≤ 32) }
 {
-    32 - u32::leading_zeros(x)
+    u32::BITS - x.leading_zeros()
 }

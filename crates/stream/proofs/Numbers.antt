@@ -1,40 +1,41 @@
 -- A number read out of gathered octets. Assumes nothing.
-use mathlib.Core.Path.{◌≡◌, ◌∙◌}
+use mathlib.Core.Path.{◌≡◌, sym, ap, ◌∙◌}
 use mathlib.Core.List.{List}
-use Prim.Native.Nat.{ℕ, ◌+◌, ◌-◌, ◌*◌, ◌/◌, ◌%◌, ◌^◌, ◌≤◌}
-use native.Mathlib.Nat.{zero-add, add-zero, mod-lt, lt_of_lt_of_le}
+use Prim.Native.Nat.{ℕ, zero, suc, ◌+◌, ◌-◌, ◌*◌, ◌/◌, ◌%◌, ◌^◌, ◌≤◌, ◌<◌}
+use native.Mathlib.Nat.{add-zero, mod-lt, lt_of_lt_of_le}
 use native.Mathlib.Omega.{arith}
+use Rattle.std.proofs.Common.{add-one}
 use lib.Pow.{pow_pos, pow_mono}
 use lib.ListN.{get_or}
+use Rattle.std.proofs.lemmas.Nat.{pow-add, shl_whole}
 use mir.Val.{Fits}
-use mir.Syntax.{w32}
+use mir.Syntax.{w32, w64}
 use Rattle.format.specs.Bits.{number_at}
 use Rattle.laws.specs.Bits.{Octets, gathered, number_read}
+use Rattle.stream.proofs.Claims.{one_number}
 
--- ---- octets, spelled out
+-- ---- octets, the last first
 
-module _ (octets : List ℕ) (at : ℕ) where
-  abbrev two : ℕ
-  two = get_or octets at 0 * 256 + get_or octets (at + 1) 0
+-- one more in front
+gathered-front : (octets : List ℕ) (at k : ℕ) → gathered octets at (suc k) ≡ gathered octets (at + 1) k + get_or octets at 0 * 2 ^ (8 * k)
+unfolding gathered
+gathered-front octets at zero = rw add-zero (omega arith)
+gathered-front octets at (suc k) =
+    let e : at + suc k ≡ at + 1 + k = omega arith in
+    let m : 8 * suc k ≡ 8 * k + 8 = omega arith in
+    rw (e, m, pow-add 2 (8 * k) 8) (omega (arith, gathered-front octets at k))
 
-  abbrev four : ℕ
-  four = (two * 256 + get_or octets (at + 2) 0) * 256 + get_or octets (at + 3) 0
+-- a turn of the loop of `stream::gathered_there`
+module _ (octets : List ℕ) (o : Octets octets) (place n k : ℕ) {number : ℕ} (h : k < n) (few : n ≤ 8) (e : number ≡ gathered octets (place + (n - k)) k) where
+  pub gathered-turn : number + get_or octets (place + n - 1 - k) 0 * 2 ^ (8 * k) % 2 ^ 64 ≡ gathered octets (place + (n - (k + 1))) (k + 1)
+  gathered-turn =
+      let at : ℕ = place + (n - (k + 1)) in
+      let here : place + n - 1 - k ≡ at = omega arith in
+      let behind : place + (n - k) ≡ at + 1 = omega arith in
+      rw (here, e, behind, shl_whole (get_or octets at 0) 8 (8 * k) 64 (o at) (omega arith)) (sym (ap (gathered octets at) (add-one k) ∙ gathered-front octets at k))
 
-  pub two-gathered : {r : ℕ} → r ≡ two → r ≡ gathered octets at 2
-  unfolding gathered
-  two-gathered e = simp (zero-add, add-zero) e
-
-  pub four-gathered : {r : ℕ} → r ≡ four → r ≡ gathered octets at 4
-  unfolding gathered
-  four-gathered e = simp (zero-add, add-zero) e
-
-  pub five-gathered : {r : ℕ} → r ≡ four * 256 + get_or octets (at + 4) 0 → r ≡ gathered octets at 5
-  unfolding gathered
-  five-gathered e = simp (zero-add, add-zero) e
-
-  pub eight-gathered : {r : ℕ} → r ≡ (((four * 256 + get_or octets (at + 4) 0) * 256 + get_or octets (at + 5) 0) * 256 + get_or octets (at + 6) 0) * 256 + get_or octets (at + 7) 0 → r ≡ gathered octets at 8
-  unfolding gathered
-  eight-gathered e = simp (zero-add, add-zero) e
+  pub turn_fits : Fits w64 (number + get_or octets (place + n - 1 - k) 0 * 2 ^ (8 * k) % 2 ^ 64)
+  turn_fits = omega (arith, gathered-turn, one_number octets o (place + (n - (k + 1))) (k + 1) (omega arith))
 
 -- ---- one shift and one remainder
 

@@ -1,12 +1,10 @@
 -- `places::span` meets its contract. Assumes nothing.
+use Rattle.std.proofs.Common.{arith}
 use Rattle.laws.specs.Spans.{span-of-none, span-of-width, span-of-eights}
 use Rattle.places.proofs.span.Goals as goal
 
 pub returns-then-count-eq0 : goal.returns-then-count-eq0
-returns-then-count-eq0 c = search span-of-none
-
-pub returns-then-width-eq0 : goal.returns-then-width-eq0
-returns-then-width-eq0 c = search span-of-width
+returns-then-count-eq0 c = grind (arith, span-of-none, span-of-width)
 
 pub returns : goal.returns
 returns c = search span-of-eights

@@ -1,19 +1,12 @@
 -- `stream::fill` meets its contract. Assumes nothing.
-use Rattle.stream.proofs.Cursors.{step-number, step_less, step_end}
-use Rattle.stream.proofs.Filling.{filling-start, filling-more, filling-room, filling-end}
+use Rattle.std.proofs.Common.{sym, ◌∙◌, ◌*◌, ◌+◌, ℕ, length, arith}
+use Rattle.std.proofs.lemmas.List.{ext_get_or}
+use Rattle.format.specs.Bits.{number_at}
+use Rattle.laws.specs.Lists.{length-listed, get_or-listed}
 use Rattle.stream.proofs.fill.Goals as goal
 
-pub loop-number-init : goal.loop-number-init
-loop-number-init c = filling-start _ _ _
-
-pub returns-in_default : goal.returns-in_default
-returns-in_default c = search (filling-end, step_end)
-
-pub bounds-numbers-k : goal.bounds-numbers-k
-bounds-numbers-k c = search filling-room
-
-pub loop-number-smaller : goal.loop-number-smaller
-loop-number-smaller c = search step_less
-
-pub loop-number-preserved : goal.loop-number-preserved
-loop-number-preserved c = search (filling-more, step-number)
+pub returns : goal.returns
+returns c =
+    let a = c.args in
+    let f = λ (k : ℕ). number_at a.octets.now (a.start.0 + k * a.width) a.width in
+    ext_get_or 0 c.loop-k.numbers _ (omega (arith, length-listed (length a.numbers.now) f)) (λ k l. c.loop-k.invariant k (omega arith) ∙ sym (get_or-listed (length a.numbers.now) f 0 k (omega arith)))

@@ -1,9 +1,13 @@
 -- `stream::Cursor::next` meets its contract. Assumes nothing.
-use Rattle.stream.proofs.Cursors.{stepped-end, stepped-number}
+use Rattle.std.proofs.Common.{arith}
+use Rattle.std.proofs.lemmas.Bool.Decides.{nat_tests}
+use Rattle.stream.specs.Cursor.{stepped}
 use Rattle.stream.proofs.Cursor.next.Goals as goal
 
-pub returns-then-self-eq0 : goal.returns-then-self-eq0
-returns-then-self-eq0 c = search stepped-end
+pub returns-in_err-left : goal.returns-in_err-left
+unfolding stepped
+returns-in_err-left c = grind (arith, nat_tests)
 
 pub returns : goal.returns
-returns c = search stepped-number
+unfolding stepped
+returns c = grind (arith, nat_tests)
