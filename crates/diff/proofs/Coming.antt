@@ -1,81 +1,42 @@
 -- The next number. Assumes nothing.
-use mathlib.Core.Path.{◌≡◌, refl, ap, ◌∙◌}
+use mathlib.Core.Path.{◌≡◌, ap, ◌∙◌}
 use mathlib.Core.List.{List, [], ◌∷◌, map}
-use Prim.Native.Nat.{ℕ, zero, suc, ◌+◌, ◌-◌, ◌^◌, ◌≤◌, ◌<◌}
+use Prim.Native.Nat.{ℕ, suc, ◌+◌, ◌-◌, ◌<◌}
 use native.Mathlib.Omega.{arith}
 use lib.IntN.{ℤ, pos, ◌+ℤ◌}
-use Rattle.format.specs.Differences.{raised, expected, restored}
-use Rattle.format.specs.declared.DecodedValue.{DecodedValue}
-use Rattle.format.specs.declared.DecodedValue.TheVariants.{Normal}
-use Rattle.diff.specs.Restoring.{bias, kept, Bounded, Expected, Steady, to_come, from, following, Following}
-use Rattle.diff.specs.declared.Descriptors.{Descriptors}
-use Rattle.diff.specs.declared.Restoring.{Restoring}
-use Rattle.diff.proofs.Kept.{kept-sum}
+use lib.ListN.{length, get_or, drop}
+use lib.Seq.{drop-cons}
+use Rattle.std.proofs.Common.{drop_of_length-le}
+use Rattle.format.specs.Differences.{Descriptors, raised, expected, restored}
+use Rattle.laws.specs.Lists.{length-map, map_at}
+use Rattle.diff.specs.Kept.{bias, kept, Slight}
+use Rattle.diff.specs.Restoring.{Expected, Coming}
+use Rattle.diff.specs.declared.restoring.Restoring.{Restoring}
+use Rattle.diff.proofs.Biased.{kept-sum}
 
--- ---- the first values that are still to come
-
-none-to-come : (order : ℕ) (x : Descriptors) → order ≤ 2 → to_come order 0 x ≡ []
-unfolding to_come
-none-to-come zero x l = refl
-none-to-come (suc zero) x l = refl
-none-to-come (suc (suc zero)) x l = refl
-none-to-come (suc (suc (suc n))) x l = absurd (omega arith)
-
-first-to-come : (order : ℕ) (x : Descriptors) → 0 < order → order ≤ 2 → to_come order order x ≡ kept x.first ∷ to_come order (order - 1) x
-unfolding to_come
-first-to-come zero x m l = absurd (omega arith)
-first-to-come (suc zero) x m l = refl
-first-to-come (suc (suc zero)) x m l = refl
-first-to-come (suc (suc (suc n))) x m l = absurd (omega arith)
-
-last-to-come : (x : Descriptors) → to_come 2 1 x ≡ kept x.second ∷ to_come 2 0 x
-unfolding to_come
-last-to-come x = refl
-
-second-to-come : (order left : ℕ) (x : Descriptors) → order ≤ 2 → left ≤ order → (left ≡ 0 → ⊥) → (left ≡ order → ⊥)
-    → to_come order left x ≡ kept x.second ∷ to_come order (left - 1) x
-second-to-come order left x m l n o =
-    let eo : order ≡ 2 = omega arith in
-    let el : left ≡ 1 = omega arith in
-    rw (eo, el) (last-to-come x)
-
--- ---- the next number
-
-module _ {order : ℕ} (x : Descriptors) {r : Restoring} (some : 0 < order) (few : order ≤ 2) (s : Steady order r) where
+module _ {order : ℕ} {d : Descriptors} (r : Restoring) (packed : ℕ) (firsts : List ℕ) (minimum : ℕ) (long : length firsts ≡ order)
+    (view : record { firsts = map kept firsts; minimum = kept minimum } ≡ d) where
   -- where a first value is to come, it is the point
-  value-comes : (left number packed : ℕ) → to_come order r.left x ≡ kept number ∷ to_come order left x → (more : List DecodedValue)
-      → from order x r (Normal (pos packed) ∷ more) ≡ Normal (kept number) ∷ from order x (following left number r) more
+  pub next-first : (k : ℕ) → 0 < r.left → k + r.left ≡ order → Coming order d r packed (get_or firsts k 0)
   unfolding map raised restored
-  value-comes left number packed e more = rw e
-
-  pub next-first : (packed : ℕ) {next : Restoring} → (r.left ≡ 0 → ⊥) → r.left ≡ order → next ≡ following (r.left - 1) x.first r → Following order x r packed next
-  next-first packed n e en = rw en record {
-    few = omega (arith, s.few);
-    before = refl;
-    point = value-comes (r.left - 1) x.first packed (rw e (first-to-come order x some few));
-  }
-
-  pub next-second : (packed : ℕ) {next : Restoring} → (r.left ≡ 0 → ⊥) → (r.left ≡ order → ⊥) → next ≡ following (r.left - 1) x.second r → Following order x r packed next
-  next-second packed n o en = rw en record {
-    few = omega (arith, s.few);
-    before = refl;
-    point = value-comes (r.left - 1) x.second packed (second-to-come order r.left x few s.few n o);
+  next-first k some few = rw (← view) record {
+    point = λ more.
+        let at : order - r.left ≡ k = omega arith in
+        let here : k < length firsts = omega arith in
+        let first : drop k (map kept firsts) ≡ kept (get_or firsts k 0) ∷ drop (suc k) (map kept firsts) =
+        drop-cons (map kept firsts) k (pos 0) (rw (length-map kept firsts) here) ∙ rw (map_at kept firsts 0 (pos 0) k here) in
+        let behind : suc k ≡ order - (r.left - 1) = omega arith in
+        rw (at, first, behind);
   }
 
   -- "each later one is its packed number plus [what is expected]"
-  sum-comes : (packed e : ℕ) → r.left ≡ 0 → Expected order r.previous r.before e → Bounded x → (more : List DecodedValue)
-      → from order x r (Normal (pos packed) ∷ more) ≡ Normal (kept (packed + x.minimum + e - bias)) ∷ from order x (following 0 (packed + x.minimum + e - bias) r) more
+  pub next-sum : {e : ℕ} → r.left ≡ 0 → Slight minimum → Expected order r.previous r.before e → Coming order d r packed (packed + minimum + e - bias)
   unfolding map raised restored
-  sum-comes packed e el h b more =
-      let sum : pos packed +ℤ kept x.minimum +ℤ expected order (kept r.previous) (kept r.before) ≡ kept (packed + x.minimum + e - bias) =
-      ap (λ (z : ℤ). pos packed +ℤ kept x.minimum +ℤ z) h.number ∙ kept-sum packed x.minimum e (omega arith) in
-      rw (el, none-to-come order x few)
-      (ap (λ (z : ℤ). Normal z ∷ restored order [] z (kept r.previous) (map (raised (kept x.minimum)) more)) sum)
-
-  pub next-sum : {packed e n : ℕ} {next : Restoring} → r.left ≡ 0 → Bounded x → Expected order r.previous r.before e → (n ≡ packed) × (n < 2 ^ 32)
-      → next ≡ following 0 (n + x.minimum + e - bias) r → Following order x r packed next
-  next-sum {packed} {e} {n} el b h w en = rw (en, w.0) record {
-    few = omega arith;
-    before = refl;
-    point = sum-comes packed e el h b;
+  next-sum {e} el s h = rw (← view) record {
+    point = λ more.
+        let sum : pos packed +ℤ kept minimum +ℤ expected order r.previous r.before ≡ kept (packed + minimum + e - bias) =
+        ap (λ (z : ℤ). pos packed +ℤ kept minimum +ℤ z) h.number ∙ kept-sum packed minimum e (omega arith) in
+        let none : drop (order - r.left) (map kept firsts) ≡ [] = drop_of_length-le (map kept firsts) (omega (arith, length-map kept firsts)) in
+        let still : order - (r.left - 1) ≡ order - r.left = omega arith in
+        rw (still, none, sum);
   }

@@ -1,4 +1,4 @@
-pub mod Kept
+pub mod Biased
 pub mod Firsts
 pub mod Coming
 pub mod Octets

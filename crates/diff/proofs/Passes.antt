@@ -1,157 +1,130 @@
 -- All points, one after another. Assumes nothing.
 use mathlib.Core.Path.{◌≡◌, refl, sym, ap, subst, ◌∙◌}
-use mathlib.Core.Bool.{Bool, true, false, not, false≢true}
 use mathlib.Core.List.{List, [], ◌∷◌, ◌++◌, append_assoc, map, flat_map}
-use Prim.Native.Nat.{ℕ, suc, ◌+◌, ◌*◌, ◌≤◌, ◌<◌}
+use Prim.Native.Nat.{ℕ, suc, ◌+◌, ◌-◌, ◌*◌, ◌/◌, ◌≤◌, ◌<◌}
 use native.Mathlib.Omega.{arith}
-use lib.IntN.{pos}
 use lib.ListN.{length, drop, length-append}
-use lib.Seq.{drop_at}
+use Rattle.std.specs.declared.result.Result.{Result}
+use Rattle.std.specs.declared.result.Result.TheVariants.{Ok, Err}
 use Rattle.format.specs.Lists.{any_of}
 use Rattle.format.specs.Layout.{point_size, point_octets}
-use Rattle.format.specs.Differences.{descriptors_of, restored, restored_from, beyond}
+use Rattle.format.specs.Differences.{Descriptors, descriptors_of, restored, restored_from}
+use Rattle.format.specs.declared.Refusal.{Refusal}
+use Rattle.format.specs.declared.Refusal.TheVariants.{Beyond}
 use Rattle.format.specs.declared.Differencing.{Differencing}
 use Rattle.format.specs.declared.DecodedValue.{DecodedValue}
-use Rattle.laws.specs.Points.{size-point, size-points, length-restored}
-use Rattle.diff.specs.Restoring.{Holding, Steady, from, Lying, Went, Stopped, Remaining, AllRestored, Onward, settled, first_restoring, Orderly, Described, Restored}
-use Rattle.diff.specs.declared.Descriptors.{Descriptors}
-use Rattle.diff.specs.declared.Restoring.{Restoring}
-use Rattle.diff.proofs.Kept.{kept-zero}
+use Rattle.laws.specs.Points.{size-point, size-points}
+use Rattle.diff.specs.Restoring.{Holding, answered, from, Lying, Went, Stopped, Remaining, AllRestored, Onward, settled, first_restoring, Orderly, Restored}
+use Rattle.diff.specs.declared.restoring.Restoring.{Restoring}
+use Rattle.diff.proofs.Biased.{kept-zero}
 
 -- ---- from one point on
 
 module _ {count k : ℕ} {octets : List ℕ} where
   -- the packed point that stands at k
-  lies : {point : DecodedValue} {more : List DecodedValue} {front behind : List ℕ} → Remaining count k octets (point ∷ more) front behind
-      → Lying k octets point front (flat_map point_octets more ++ behind)
+  lies : {point : DecodedValue} {more : List DecodedValue} {front : List ℕ} → Remaining count k octets (point ∷ more) front
+      → Lying k octets point front (flat_map point_octets more)
   unfolding flat_map
-  lies {point} {more} {front} {behind} h = record {
-    small = h.small 0 (omega arith);
-    long = h.long;
-    there = h.there ∙ ap (λ (l : List ℕ). front ++ l) (append_assoc (point_octets point) (flat_map point_octets more) behind);
-  }
+  lies h = record { small = h.small 0 (omega arith); long = h.long; there = h.there }
 
-  -- what stands past the points
-  past : {packed : List DecodedValue} {front behind : List ℕ} → Remaining count k octets packed front behind → drop (count * point_size) octets ≡ behind
-  past {packed} {front} {behind} h =
-      let points = flat_map point_octets packed in
-      rw (h.there, ← append_assoc front points behind)
-      (drop_at (front ++ points) behind (count * point_size) (length-append front points ∙ omega (arith, size-points packed, h.long, h.few)))
+module _ {k : ℕ} {octets : List ℕ} {order : ℕ} {d : Descriptors} {r : Restoring} where
+  -- a point is in its place, and what comes to the others comes to all
+  onward-more : {octets' after : List ℕ} {next : Restoring} {answer : Result (Unit {0}) Refusal} → Went order d r k octets octets' next
+      → k < length octets / point_size → Onward order d next (k + 1) octets' answer after → Onward order d r k octets answer after
+  unfolding flat_map any_of
+  onward-more {octets'} {after} {next} {answer} m l o = record { long = o.long ∙ m.long; exact = all }
+    where
+      all : (packed : List DecodedValue) (front : List ℕ) → Remaining (length octets / point_size) k octets packed front → AllRestored order d r answer after packed front
+      all [] front h = absurd (omega (arith, h.few))
+      all (point ∷ more) front h =
+          let t = m.exact point front (flat_map point_octets more) (lies h) in
+          let here = point_octets t.point in
+          let f = o.exact more (front ++ here) record {
+            small = λ j i. h.small (suc j) (omega arith);
+            few = rw m.long (omega (arith, h.few));
+            long = length-append front here ∙ omega (arith, h.long, size-point t.point);
+            there = t.there ∙ sym (append_assoc front here (flat_map point_octets more));
+          } in
+          record {
+            is = rw (t.comes more, t.within) f.is;
+            there = λ e. rw (t.comes more) (f.there e ∙ append_assoc front here (flat_map point_octets (from order d next more)));
+          }
 
-  module _ {order : ℕ} {x : Descriptors} {r : Restoring} where
-    -- a point is in its place, and what comes to the others comes to all
-    onward-more : {octets' after : List ℕ} {next : Restoring} {within : Bool} → Went order x r k octets octets' next → k < count
-        → Onward order x count next (k + 1) octets' within after → Onward order x count r k octets within after
-    unfolding flat_map any_of
-    onward-more {octets'} {after} {next} {within} m l o = record { long = o.long ∙ m.long; exact = all }
-      where
-        all : (packed : List DecodedValue) (front behind : List ℕ) → Remaining count k octets packed front behind → AllRestored order x count r within after packed front behind
-        all [] front behind h = absurd (omega (arith, h.few))
-        all (point ∷ more) front behind h =
-            let t = m.exact point front (flat_map point_octets more ++ behind) (lies h) in
-            let here = point_octets t.point in
-            let rest = flat_map point_octets (from order x next more) in
-            let f = o.exact more (front ++ here) behind record {
-              small = λ j i. h.small (suc j) (omega arith);
-              few = omega (arith, h.few);
-              long = length-append front here ∙ omega (arith, h.long, size-point t.point);
-              there = t.there ∙ sym (append_assoc front here (flat_map point_octets more ++ behind));
-            } in
-            record {
-              answer = rw (t.comes more, t.within) f.answer;
-              there = λ e. rw (t.comes more) (f.there e ∙ append_assoc front here (rest ++ behind) ∙ ap (λ (l : List ℕ). front ++ l) (sym (append_assoc here rest behind)));
-              past = f.past;
-            }
+  -- a point is beyond
+  onward-beyond : {octets' : List ℕ} → Stopped order d r k octets octets' → k < length octets / point_size → Onward order d r k octets (Err Beyond) octets'
+  unfolding any_of
+  onward-beyond {octets'} m l = record { long = ap length m.same; exact = all }
+    where
+      all : (packed : List DecodedValue) (front : List ℕ) → Remaining (length octets / point_size) k octets packed front → AllRestored order d r (Err Beyond) octets' packed front
+      all [] front h = absurd (omega (arith, h.few))
+      all (point ∷ more) front h =
+          let t = m.exact point front (flat_map point_octets more) (lies h) in
+          record { is = rw (t.comes more, t.past); there = λ e. cc }
 
-    -- a point is beyond
-    pub onward-beyond : {octets' : List ℕ} → Stopped order x r k octets octets' → k < count → Onward order x count r k octets false octets'
-    unfolding any_of
-    onward-beyond {octets'} m l = record { long = ap length m.same; exact = all }
-      where
-        all : (packed : List DecodedValue) (front behind : List ℕ) → Remaining count k octets packed front behind → AllRestored order x count r false octets' packed front behind
-        all [] front behind h = absurd (omega (arith, h.few))
-        all (point ∷ more) front behind h =
-            let t = m.exact point front (flat_map point_octets more ++ behind) (lies h) in
-            record {
-              answer = rw (t.comes more, t.past);
-              there = λ e. absurd (false≢true e);
-              past = rw m.same (past h);
-            }
-
-    -- no point is left
-    pub onward-end : count ≤ k → Onward order x count r k octets true octets
-    unfolding any_of flat_map map restored
-    onward-end l = record { long = refl; exact = all }
-      where
-        all : (packed : List DecodedValue) (front behind : List ℕ) → Remaining count k octets packed front behind → AllRestored order x count r true octets packed front behind
-        all [] front behind h = record { answer = refl; there = λ e. h.there; past = past h }
-        all (point ∷ more) front behind h = absurd (omega (arith, h.few))
+  -- no point is left
+  onward-end : length octets / point_size ≤ k → Onward order d r k octets (Ok tt) octets
+  unfolding any_of flat_map map restored
+  onward-end l = record { long = refl; exact = all }
+    where
+      all : (packed : List DecodedValue) (front : List ℕ) → Remaining (length octets / point_size) k octets packed front → AllRestored order d r (Ok tt) octets packed front
+      all [] front h = record { is = refl; there = λ e. h.there }
+      all (point ∷ more) front h = absurd (omega (arith, h.few))
 
 -- ---- the loops: what comes to the points from k on comes to all from k₀ on
 
-pub record Underway (order : ℕ) (x : Descriptors) (count : ℕ) (r₀ : Restoring) (k₀ : ℕ) (octets₀ : List ℕ) (r : Restoring) (k : ℕ) (octets : List ℕ) : Type 0 where
-  pub some : k ≤ count
+pub record Underway (order : ℕ) (d : Descriptors) (r₀ : Restoring) (k₀ : ℕ) (octets₀ : List ℕ) (r : Restoring) (k : ℕ) (octets : List ℕ) : Type 0 where
+  pub few : r.left ≤ order
   pub long : length octets ≡ length octets₀
-  pub steady : Steady order r
-  pub onward : {within : Bool} {after : List ℕ} → Onward order x count r k octets within after → Onward order x count r₀ k₀ octets₀ within after
+  pub onward : {answer : Result (Unit {0}) Refusal} {after : List ℕ} → Onward order d r k octets answer after → Onward order d r₀ k₀ octets₀ answer after
 
-pub underway-start : {order : ℕ} (x : Descriptors) {count : ℕ} {r : Restoring} {k : ℕ} (octets : List ℕ) → Steady order r → k ≤ count → Underway order x count r k octets r k octets
-underway-start x octets s l = record { some = l; long = refl; steady = s; onward = λ o. o }
+pub underway-start : {order : ℕ} (d : Descriptors) (r : Restoring) (k : ℕ) (octets : List ℕ) → r.left ≤ order → Underway order d r k octets r k octets
+underway-start d r k octets l = record { few = l; long = refl; onward = λ o. o }
 
-pub steady-first : (order : ℕ) → Steady order (first_restoring order)
-steady-first order = record {
-  few = omega arith;
-  previous = record { low = omega arith; high = omega arith };
-  before = record { low = omega arith; high = omega arith };
-}
+module _ {order : ℕ} {d : Descriptors} {r₀ : Restoring} {k₀ : ℕ} {octets₀ : List ℕ} {r : Restoring} {k : ℕ} {octets : List ℕ} (u : Underway order d r₀ k₀ octets₀ r k octets) where
+  module _ (l : k < length octets₀ / point_size) where
+    inside : k < length octets / point_size
+    inside = rw u.long l
 
-pub steady-settled : {order : ℕ} {r : Restoring} → Steady order r → Steady order (settled r.previous r.before)
-steady-settled s = record { few = omega arith; previous = s.previous; before = s.before }
+    pub underway-more : {octets' : List ℕ} {next : Restoring} → Went order d r k octets octets' next → Underway order d r₀ k₀ octets₀ next (k + 1) octets'
+    underway-more m = record { few = m.few; long = m.long ∙ u.long; onward = λ o. u.onward (onward-more m inside o) }
 
-module _ {order : ℕ} {x : Descriptors} {count : ℕ} {r₀ : Restoring} {k₀ : ℕ} {octets₀ : List ℕ} {r : Restoring} {k : ℕ} {octets : List ℕ} (u : Underway order x count r₀ k₀ octets₀ r k octets) where
-  pub underway-more : {octets' : List ℕ} {next : Restoring} → Went order x r k octets octets' next → k < count → Underway order x count r₀ k₀ octets₀ next (k + 1) octets'
-  underway-more m l = record {
-    some = omega arith;
-    long = m.long ∙ u.long;
-    steady = m.steady;
-    onward = λ o. u.onward (onward-more m l o);
-  }
+    pub underway-beyond : {octets' : List ℕ} → Stopped order d r k octets octets' → Onward order d r₀ k₀ octets₀ (Err Beyond) octets'
+    underway-beyond m = u.onward (onward-beyond m inside)
 
-  pub underway-beyond : {octets' : List ℕ} → Stopped order x r k octets octets' → k < count → Onward order x count r₀ k₀ octets₀ false octets'
-  underway-beyond m l = u.onward (onward-beyond m l)
+    -- its octets are there
+    pub point-there : (k + 1) * point_size ≤ length octets
+    point-there = omega (arith, inside)
 
-  pub underway-end : count ≤ k → Onward order x count r₀ k₀ octets₀ true octets
-  underway-end l = u.onward (onward-end l)
+  pub underway-end : length octets₀ / point_size ≤ k → Onward order d r₀ k₀ octets₀ (Ok tt) octets
+  underway-end l = u.onward (onward-end (rw u.long l))
 
   -- once no first value is still to come
-  pub underway-settled : {within : Bool} {after : List ℕ} → r.left ≡ 0 → Onward order x count (settled r.previous r.before) k octets within after
-      → Onward order x count r₀ k₀ octets₀ within after
-  underway-settled {within} {after} e o =
-      u.onward (subst (λ (n : ℕ). Onward order x count (record { left = n; previous = r.previous; before = r.before }) k octets within after) (sym e) o)
+  pub underway-settled : {answer : Result (Unit {0}) Refusal} {after : List ℕ} → r.left ≡ 0 → Onward order d (settled r) k octets answer after
+      → Onward order d r₀ k₀ octets₀ answer after
+  underway-settled {answer} {after} e o =
+      u.onward (subst (λ (n : ℕ). Onward order d (record { left = n; previous = r.previous; before = r.before }) k octets answer after) (sym e) o)
 
 -- ---- what the payload says
 
-module _ (d : Differencing) (payload : List ℕ) {x : Descriptors} (s : Described d payload x) {count : ℕ} {within : Bool} {before after : List ℕ} where
-  whole : (order : ℕ) → order ≡ d.order → Onward order x count (first_restoring order) 0 before within after
-      → (packed : List DecodedValue) → Holding packed count before → Restored d payload packed within before after
-  whole order e o packed h =
-      let points = restored_from d.order (descriptors_of d payload) packed in
-      let same : from order x (first_restoring order) packed ≡ points = rw (e, ← s.firsts, ← s.minimum, kept-zero) in
-      let size = size-points packed in
-      let long : length (flat_map point_octets points) ≡ length (flat_map point_octets packed) =
-      size-points points ∙ ap (λ (n : ℕ). n * point_size) (length-restored d.order (descriptors_of d payload).firsts (pos 0) (pos 0) (descriptors_of d payload).minimum packed) ∙ sym size in
-      let f = o.exact packed [] (drop (length (flat_map point_octets packed)) before) record { small = h.small; few = omega (arith, h.long); long = refl; there = h.there } in
+module _ (d : Differencing) (payload : List ℕ) {answer : Result (Unit {0}) Refusal} {before after : List ℕ} where
+  whole : {order : ℕ} → order ≡ d.order → {x : Descriptors} → x ≡ descriptors_of d payload → Onward order x (first_restoring order) 0 before answer after
+      → (packed : List DecodedValue) → Holding packed before → Restored d payload packed answer before after
+  whole {order} e {x} ex o packed h =
+      let all : drop (order - order) x.firsts ≡ x.firsts = let n : order - order ≡ 0 = omega arith in rw n in
+      let same : from order x (first_restoring order) packed ≡ restored_from d.order (descriptors_of d payload) packed = rw (all, e, ex, kept-zero) in
+      let f = o.exact packed [] record { small = h.small; few = omega (arith, size-points packed, ap length h.there); long = refl; there = h.there } in
       record {
-        answer = f.answer ∙ ap (λ (l : List DecodedValue). not (any_of beyond l)) same;
-        there = λ t. rw long (f.there t ∙ ap (λ (l : List DecodedValue). flat_map point_octets l ++ drop (length (flat_map point_octets packed)) before) same);
+        is = f.is ∙ ap answered same;
+        there = λ t. f.there t ∙ ap (λ (l : List DecodedValue). flat_map point_octets l) same;
         long = o.long;
-        past = rw (← size) (ap (λ (n : ℕ). drop n after) (size ∙ ap (λ (n : ℕ). n * point_size) h.long) ∙ f.past);
       }
 
-  pub whole-first : d.order ≡ 1 → Onward 1 x count (first_restoring 1) 0 before within after
-      → (packed : List DecodedValue) → Holding packed count before → Restored d payload packed within before after
-  whole-first e o = whole 1 (sym e) o
+  pub whole-first : d.order ≡ 1 → {x : Descriptors} → x ≡ descriptors_of (record { order = 1; octets = d.octets }) payload → Onward 1 x (first_restoring 1) 0 before answer after
+      → (packed : List DecodedValue) → Holding packed before → Restored d payload packed answer before after
+  whole-first e ex o = whole (sym e) (ex ∙ ap (λ (n : ℕ). descriptors_of (record { order = n; octets = d.octets }) payload) (sym e)) o
 
-  pub whole-second : Orderly d → (d.order ≡ 1 → ⊥) → Onward 2 x count (first_restoring 2) 0 before within after
-      → (packed : List DecodedValue) → Holding packed count before → Restored d payload packed within before after
-  whole-second w n o = whole 2 (omega arith) o
+  pub whole-second : Orderly d → (d.order ≡ 1 → ⊥) → {x : Descriptors} → x ≡ descriptors_of (record { order = 2; octets = d.octets }) payload → Onward 2 x (first_restoring 2) 0 before answer after
+      → (packed : List DecodedValue) → Holding packed before → Restored d payload packed answer before after
+  whole-second w n ex o =
+      let e : 2 ≡ d.order = omega arith in
+      whole e (ex ∙ ap (λ (m : ℕ). descriptors_of (record { order = m; octets = d.octets }) payload) e) o
