@@ -151,13 +151,6 @@ pub fn store_level(octets: &mut [u8], k: usize, level: u16)
     level.store(octets, k);
 }
 
-pub fn level_in(octets: &[u8], k: usize) -> u32
-    requires { (k + 1) * level_size ≤ length octets.now }
-    ensures { result ≡ number_at octets.now (k * 16) 16 }
-{
-    stream::read_two(octets, OctetPlace(k * LEVEL_SIZE))
-}
-
 // Number k of those that take four octets each.
 pub fn store_number(octets: &mut [u8], k: usize, number: u32)
     requires { (k + 1) * number_size ≤ length octets.old }
@@ -166,11 +159,26 @@ pub fn store_number(octets: &mut [u8], k: usize, number: u32)
     number.store(octets, k);
 }
 
+// Number k of those that take SIZE octets each: LEVEL_SIZE or NUMBER_SIZE.
+pub fn whole_in<const SIZE: usize>(octets: &[u8], k: usize) -> u32
+    requires { (SIZE ≤ 4) × ((k + 1) * SIZE ≤ length octets.now) }
+    ensures { result ≡ number_at octets.now (k * (SIZE * 8)) (SIZE * 8) }
+{
+    stream::read_whole::<SIZE>(octets, OctetPlace(k * SIZE))
+}
+
+pub fn level_in(octets: &[u8], k: usize) -> u32
+    requires { (k + 1) * level_size ≤ length octets.now }
+    ensures { result ≡ number_at octets.now (k * 16) 16 }
+{
+    whole_in::<LEVEL_SIZE>(octets, k)
+}
+
 pub fn number_in(octets: &[u8], k: usize) -> u32
     requires { (k + 1) * number_size ≤ length octets.now }
     ensures { result ≡ number_at octets.now (k * 32) 32 }
 {
-    stream::read_four(octets, OctetPlace(k * NUMBER_SIZE))
+    whole_in::<NUMBER_SIZE>(octets, k)
 }
 
 // Numbers of four octets each.
@@ -194,10 +202,10 @@ pub fn group_in(octets: &[u8], k: usize) -> Group
 {
     let at = k * NUMBERS_PER_GROUP;
     Group {
-        start: number_in(octets, at),
-        length: number_in(octets, at + 1),
-        least: number_in(octets, at + 2),
-        width: number_in(octets, at + 3),
+        start: whole_in::<NUMBER_SIZE>(octets, at),
+        length: whole_in::<NUMBER_SIZE>(octets, at + 1),
+        least: whole_in::<NUMBER_SIZE>(octets, at + 2),
+        width: whole_in::<NUMBER_SIZE>(octets, at + 3),
     }
 }
 
@@ -249,7 +257,7 @@ pub fn packed_in(octets: &[u8], k: usize) -> u32
     requires { (k + 1) * point_size ≤ length octets.now }
     ensures { result ≡ number_at octets.now ((k * point_size + 5) * 8) 32 }
 {
-    stream::read_four(octets, OctetPlace(k * POINT_SIZE + 5))
+    stream::read_whole::<4>(octets, OctetPlace(k * POINT_SIZE + 5))
 }
 
 // A template from all its numbers, in Section 5's order. All ten are parameters: the C calls of include/cleatmow.h hand them over
