@@ -1,7 +1,7 @@
 -- The points of all groups, group by group. Assumes nothing.
 use mathlib.Core.Path.{◌≡◌, refl, sym, ap, ◌∙◌}
 use mathlib.Core.List.{List, flat_map}
-use Prim.Native.Nat.{ℕ, ◌+◌, ◌*◌, ◌^◌, ◌≤◌, ◌<◌}
+use Prim.Native.Nat.{ℕ, ◌+◌, ◌*◌, ◌≤◌, ◌<◌}
 use native.Mathlib.Omega.{arith}
 use lib.ListN.{length}
 use lib.Seq.{sets, length-sets}
@@ -42,15 +42,18 @@ points-of-group : (start : ℕ) (t : Template) (payload : List ℕ) (g : ℕ) �
 unfolding value_point
 points-of-group start t payload g l = listed-ext (group_length t (codes_of start t payload) g) _ _ (λ k m. sym (point-read start t payload g k l m))
 
-module _ {t : Template} {places : Places} (laid : Laid t places) (payload lent : List ℕ) {points : List ℕ} {walk : Walk} {n : ℕ}
-    (roomy : Roomy t (codes_of places.references.0 t payload) (length lent)) (x : Filled places.references.0 t payload lent points walk) (en : (n ≡ t.groups) × (n < 2 ^ 32)) where
+module _ {t : Template} {places : Places} (laid : Laid t places) (payload lent : List ℕ) {points : List ℕ} {walk : Walk}
+    (roomy : Roomy t (codes_of places.references.0 t payload) (length lent)) (x : Filled places.references.0 t payload lent points walk) where
   abbrev codes : Codes
   codes = codes_of places.references.0 t payload
 
   abbrev said : Said
   said = said_by places.references.0 t payload
 
-  module _ (l : walk.group < n) {group : PackedGroup} (er : group ≡ coded_group t codes walk.group) where
+  module _ {g : ℕ} (eg : walk.group ≡ g) (l : g < t.groups) {group : PackedGroup} (eg' : group ≡ coded_group t codes g) where
+    er : group ≡ coded_group t codes walk.group
+    er = rw eg eg'
+
     within : walk.points + group.length ≤ points_before t codes t.groups
     within = rw er (omega (arith, points-within t codes t.groups walk.group (omega arith), x.walking.count))
 
@@ -90,7 +93,7 @@ module _ {t : Template} {places : Places} (laid : Laid t places) (payload lent :
             ∙ ap (λ (l : List DecodedValue). flat_map point_octets l over lent) (sym (joined-next walk.group (λ i. listed (group_length t codes i) (point_at t said i)))));
       }
 
-  pub filled-end : n ≤ walk.group → points ≡ flat_map point_octets (points_up_to t said t.groups) over lent
+  pub filled-end : t.groups ≤ walk.group → points ≡ flat_map point_octets (points_up_to t said t.groups) over lent
   filled-end l =
       let e : walk.group ≡ t.groups = omega (arith, x.walking.some) in
       x.there ∙ ap (λ (i : ℕ). flat_map point_octets (points_up_to t said i) over lent) e

@@ -1,11 +1,10 @@
 -- Points stored one behind the other. Assumes nothing.
-use mathlib.Core.Path.{◌≡◌, refl, sym, ap, ◌∙◌}
-use mathlib.Core.List.{List, [], ◌∷◌, ◌++◌, append-nil, flat_map}
-use Prim.Native.Nat.{ℕ, ◌+◌, ◌*◌, ◌≤◌, ◌<◌}
-use native.Mathlib.Omega.{arith}
+use mathlib.Core.Path.{◌≡◌, sym, ap, ◌∙◌}
+use mathlib.Core.List.{List, flat_map}
+use Prim.Native.Nat.{ℕ, ◌+◌, ◌*◌}
 use borrow.Author.Tests.{eq-eqb}
-use lib.ListN.{length, replicate}
-use lib.Seq.{sets, length-sets}
+use lib.ListN.{replicate}
+use lib.Seq.{sets}
 use Rattle.format.specs.Lists.{listed}
 use Rattle.format.specs.Bits.{number_at}
 use Rattle.format.specs.Layout.{point_size, point_octets}
@@ -13,51 +12,29 @@ use Rattle.format.specs.Unpacking.{point_of}
 use Rattle.format.specs.declared.Template.{Template}
 use Rattle.format.specs.declared.DecodedValue.{DecodedValue}
 use Rattle.laws.specs.Lists.{length-listed, listed_more, listed-ext, listed_same}
-use Rattle.laws.specs.Points.{size-points}
-use Rattle.laws.specs.Stores.{sets-append, flat_append}
+use Rattle.laws.specs.Points.{size-point}
+use Rattle.layout.proofs.Stores.{Things, none_stored, more_stored}
 use Rattle.groups.specs.declared.PackedGroup.{PackedGroup}
 use Rattle.groups.specs.Packed.{value_point}
 
--- of `count` points f 0, f 1, .. the first k are stored, from point `from` on
-pub record PointsStored (lent : List ℕ) (from count : ℕ) (f : ℕ → DecodedValue) (points : List ℕ) (k : ℕ) : Type 0 where
-  pub some : k ≤ count
-  pub long : length points ≡ length lent
-  pub there : points ≡ sets lent (from * point_size) (flat_map point_octets (listed k f))
+-- of points f 0, f 1, .. the first k are stored, from point `from` on
+abbrev pub Each : List ℕ → ℕ → (ℕ → DecodedValue) → ℕ → List ℕ → Type 0
+Each lent from f k points = Things point_octets point_size lent from (listed k f) points
 
-pub each_start : (lent : List ℕ) (from count : ℕ) (f : ℕ → DecodedValue) → PointsStored lent from count f lent 0
-unfolding listed flat_map
-each_start lent from count f = record { some = omega arith; long = refl; there = refl }
-
-pub each_more : (point : DecodedValue) (lent points after : List ℕ) (from count k : ℕ) (f : ℕ → DecodedValue) → PointsStored lent from count f points k → k < count → point ≡ f k
-    → after ≡ sets points ((from + k) * point_size) (point_octets point) → PointsStored lent from count f after (k + 1)
-unfolding flat_map
-each_more point lent points after from count k f s l ep e =
-    let xs = flat_map point_octets (listed k f) in
-    let place : (from + k) * point_size ≡ from * point_size + length xs = omega (arith, size-points (listed k f), ap (λ (n : ℕ). n * point_size) (length-listed k f)) in
-    record {
-      some = omega arith;
-      long = ap length e ∙ length-sets points ((from + k) * point_size) (point_octets point) ∙ s.long;
-      there =
-          e ∙ rw (place, s.there, ep) (sets-append lent (from * point_size) xs (point_octets (f k)))
-          ∙ ap (sets lent (from * point_size))
-          (ap (λ (l : List ℕ). xs ++ l) (sym (append-nil (point_octets (f k)))) ∙ sym (flat_append point_octets (listed k f) (f k ∷ [])) ∙ ap (flat_map point_octets) (sym (listed_more k f)));
-    }
-
-pub each-end : {lent points : List ℕ} {from count k : ℕ} {f : ℕ → DecodedValue} → PointsStored lent from count f points k → count ≤ k → points ≡ sets lent (from * point_size) (flat_map point_octets (listed count f))
-each-end {count = count} {k} s l = let e : count ≡ k = omega (arith, s.some) in rw e s.there
+pub each_start : (lent : List ℕ) (from : ℕ) (f : ℕ → DecodedValue) → Each lent from f 0 lent
+unfolding listed
+each_start lent from f = none_stored point_octets point_size lent from
 
 -- of a group of which k values are read, the next of them at its place
 pub read_more : (point : DecodedValue) (t : Template) (group : PackedGroup) (payload : List ℕ) (p bit : ℕ) (lent points after : List ℕ) (from k : ℕ) → bit ≡ p + k * group.width
-    → PointsStored lent from group.length (value_point t group payload p) points k → k < group.length → point ≡ point_of t group.width group.reference (number_at payload bit group.width)
-    → after ≡ sets points ((from + k) * point_size) (point_octets point) → PointsStored lent from group.length (value_point t group payload p) after (k + 1)
+    → Each lent from (value_point t group payload p) k points → point ≡ point_of t group.width group.reference (number_at payload bit group.width)
+    → after ≡ sets points ((from + k) * point_size) (point_octets point) → Each lent from (value_point t group payload p) (k + 1) after
 unfolding value_point
-read_more point t group payload p bit lent points after from k eb s l ep e = each_more point lent points after from group.length k (value_point t group payload p) s l (ep ∙ rw eb) e
-
--- ---- one point in many places
-
-pub repeated : {lent points : List ℕ} {from count k : ℕ} {point : DecodedValue} → PointsStored lent from count (λ i. point) points k → count ≤ k
-    → points ≡ sets lent (from * point_size) (flat_map point_octets (replicate count point))
-repeated {lent} {from = from} {count} {point = point} s l = each-end s l ∙ ap (λ (ps : List DecodedValue). sets lent (from * point_size) (flat_map point_octets ps)) (listed_same count point)
+read_more point t group payload p bit lent points after from k eb s ep e =
+    let f : ℕ → DecodedValue = value_point t group payload p in
+    let here : point ≡ f k = ep ∙ rw eb in
+    rw (listed_more k f, ← here)
+    (more_stored point_octets point_size lent from size-point (listed k f) point (from + k) s (ap (λ (n : ℕ). from + n) (sym (length-listed k f))) e)
 
 -- in a group of width 0 all points are one
 pub repeated-points : (t : Template) (group : PackedGroup) (payload : List ℕ) (p : ℕ) (lent : List ℕ) (at : ℕ) {point : DecodedValue} {points : List ℕ} → group.width ≡ 0

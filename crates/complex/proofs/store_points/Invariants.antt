@@ -1,10 +1,7 @@
--- What the loop of `complex::store_points` keeps, and why it ends. Assumes nothing.
-use Prim.Native.Nat.{◌-◌}
+-- What the loop of `complex::store_points` keeps. Assumes nothing.
+use mathlib.Core.Path.{◌≡◌}
 use Rattle.complex.proofs.Groups.{Filled}
 use Rattle.complex.proofs.store_points.Given as goal
 
-abbrev pub invariant-loop-walk : goal.invariant-loop-walk
-invariant-loop-walk l = Filled l.places.references.0 l.template l.payload l.initial.points l.points l.walk
-
-abbrev pub decreases-loop-walk : goal.decreases-loop-walk
-decreases-loop-walk l = l.count - l.walk.group
+abbrev pub invariant-loop-g : goal.invariant-loop-g
+invariant-loop-g l = record { here : l.walk.group ≡ l.g; filled : Filled l.groups.places.references.0 l.groups.template l.groups.payload.now l.initial.points l.points l.walk }
