@@ -12,9 +12,9 @@ use Rattle.laws.specs.Codes.{but-last-snoc, last_snoc}
 use Rattle.laws.specs.Groups.{own_numbers, own_groups, length-own}
 use Rattle.numbers.specs.declared.Window.{Window}
 use Rattle.numbers.specs.Windows.{window_of}
-use Rattle.coding.specs.Codes.{widths_in, lengths_in, Recorded}
+use Rattle.coding.specs.Codes.{IsAt, widths_in, lengths_in, Recorded}
 use Rattle.coding.proofs.Divisors.{gcd-snoc}
-use Rattle.coding.proofs.Firsts.{IsAt, firsts-next, firsts-all, firsts-last, least-below, greatest-less}
+use Rattle.coding.proofs.Firsts.{firsts-next, firsts-all, firsts-last, least-below, greatest-less}
 use Rattle.coding.proofs.Recordings.{own-numbers}
 
 -- the differences of some lengths from one that is no greater

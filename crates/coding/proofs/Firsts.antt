@@ -10,7 +10,7 @@ use Rattle.laws.specs.Groups.{group_in}
 use Rattle.numbers.specs.declared.Window.{Window}
 use Rattle.numbers.specs.Windows.{window_of, widened_by}
 use Rattle.numbers.proofs.Windows.{window_more}
-use Rattle.coding.specs.Codes.{widths_in, Codable}
+use Rattle.coding.specs.Codes.{IsAt, widths_in, Codable}
 
 -- ---- any numbers
 
@@ -24,10 +24,6 @@ pub window-least : (xs : List ℕ) {w : Window} → w ≡ window_of xs → w.lea
 window-least xs e = rw e (omega arith)
 
 -- ---- those of groups
-
--- group k of them, whatever is read behind the last
-abbrev pub IsAt : List Group → ℕ → Group → Type 0
-IsAt groups k g = (d : Group) → g ≡ get_or groups k d
 
 module _ (number : Group → ℕ) (groups : List Group) where
   abbrev pub firsts : ℕ → List ℕ

@@ -1,9 +1,13 @@
 -- What the coding is asked. Assumes nothing.
-use Rattle.std.specs.Prelude.{List, map, ℕ, ◌<◌, ◌≤◌, length, get_or}
+use Rattle.std.specs.Prelude.{◌≡◌, List, map, ℕ, ◌<◌, ◌≤◌, length, get_or}
 use Rattle.format.specs.Lists.{greatest}
 use Rattle.format.specs.Refusals.{limit}
 use Rattle.format.specs.declared.Group.{Group}
 use Rattle.laws.specs.Groups.{RecordOf}
+
+-- group k of them, whatever is read behind the last
+abbrev pub IsAt : List Group → ℕ → Group → Type 0
+IsAt groups k g = (d : Group) → g ≡ get_or groups k d
 
 -- the widths and the lengths of groups
 abbrev pub widths_in : List Group → List ℕ

@@ -2,7 +2,7 @@
 // groups in a lent list are coded.
 #![tactic(auto)]
 
-ghost use Rattle.std.specs.Prelude.{◌≡◌, List, map, ℕ, ◌*◌, ◌-◌, ◌/◌, ◌<◌, ◌≤◌, length, get_or, take};
+ghost use Rattle.std.specs.Prelude.{◌≡◌, List, map, ℕ, ◌*◌, ◌-◌, ◌/◌, ◌<◌, ◌≤◌, length, take};
 ghost use Rattle.format.specs.Lists.{greatest, least};
 ghost use Rattle.format.specs.Layout.{group_size};
 ghost use Rattle.format.specs.Grouping.{bits};
@@ -10,7 +10,7 @@ ghost use Rattle.format.specs.Packing.{gcd, gcd_from, divisor_up_to, increment_o
 ghost use Rattle.format.specs.declared.Group.{Group};
 ghost use Rattle.laws.specs.Groups.{groups_in, own_groups};
 ghost use Rattle.numbers.specs.Windows.{window_of};
-ghost use Rattle.coding.specs.Codes.{widths_in, lengths_in, Codable, Recorded};
+ghost use Rattle.coding.specs.Codes.{IsAt, widths_in, lengths_in, Codable, Recorded};
 
 use format::{Group, Lengths, Template, Widths};
 use numbers::Window;
@@ -49,7 +49,7 @@ impl<'a> Records<'a> {
 
     pub fn at(&self, k: usize) -> Group
         requires { k < length self.now }
-        ensures { (d : Group) → result ≡ get_or self.now k d }
+        ensures { IsAt self.now k result }
     {
         layout::group_in(self.octets, k)
     }
@@ -80,7 +80,7 @@ fn window_over<F: Fn(Group) -> u32>(records: &Records, number: F) -> Window
     window
 }
 
-// "the greatest common divisor by repeated remainders, calling itself"
+// "the greatest common divisor by repeated remainders, calling itself". Document 01 names this form: a recursion on the remainder.
 fn gcd(a: u32, b: u32) -> u32
     ensures { result ≡ gcd a b }
 {
@@ -99,16 +99,19 @@ fn step_of(records: &Records, reference: u32) -> u32
     step
 }
 
-// "the greatest divisor of it that is at most 255"
+// "the greatest divisor of it that is at most 255". Document 01 names this form: a loop that counts down from 255 and yields the
+// divisor by break.
 fn divisor_of(step: u32) -> u32
     ensures { (result ≡ divisor_up_to step 255) × (result ≤ 255) }
 {
-    for divisor in (2..256).rev() {
+    let mut divisor = 255u32;
+    let found = loop {
         if step % divisor == 0 {
-            return divisor;
+            break divisor;
         }
-    }
-    1
+        divisor -= 1;
+    };
+    found
 }
 
 // "A step up to 255 is the increment; a larger one gives the greatest divisor of it that is at most 255."
