@@ -1,5 +1,5 @@
 -- "a reader that holds the octets and its place in them": the place is the cursor. Assumes nothing.
-use Rattle.std.specs.Prelude.{ℕ, ◌+◌, ◌-◌, ◌*◌, ◌^◌, min, Bool, cond, ◌||◌, List, [], ◌∷◌, ltb, leb, length}
+use Rattle.std.specs.Prelude.{ℕ, ◌+◌, ◌-◌, ◌*◌, ◌^◌, min, Bool, cond, ◌||◌, List, [], ◌∷◌, ltb, leb, length, Option, Some, None, Result, Ok, Err}
 use Rattle.std.specs.Borrow.{Bor}
 use Rattle.format.specs.Bits.{span_of}
 use Rattle.format.specs.Refusals.{◌gives◌, first}
@@ -7,10 +7,8 @@ use Rattle.format.specs.declared.Refusal.TheVariants.{Width, Short}
 use Rattle.stream.specs.Cursor.{stepped}
 use Rattle.stream.specs.declared.Cursor.{Cursor}
 use Rattle.stream.specs.declared.Step.{Step}
-use Rattle.stream.specs.declared.Step.TheVariants as step
+use Rattle.format.specs.declared.Refusal.{Refusal}
 use Rattle.reader.specs.declared.Reader.{Reader}
-use Rattle.reader.specs.declared.Taken.{Taken}
-use Rattle.reader.specs.declared.Taken.TheVariants as taken
 
 -- the reader of these octets at this cursor
 abbrev pub reader_on : Bor (List ℕ) → Cursor → Reader
@@ -18,20 +16,20 @@ reader_on octets cursor = record { octets = octets; cursor = cursor }
 
 -- "bit field width outside its range or starting bit above 7": here a field starts at any bit below 2^63, from where a
 -- cursor moves on within 64 bits
-unfoldable pub outside : Cursor → Bool
+abbrev pub outside : Cursor → Bool
 outside c = ltb 32 c.width || leb (2 ^ 63) c.place.0
 
 -- the number of a step, without the cursor behind it
-abbrev pub number_in : Step → Taken
-number_in (step.Number number behind) = taken.Number number
-number_in step.End = taken.End
+abbrev pub number_in : Option Step → Option ℕ
+number_in (Some step) = Some step.number
+number_in None = None
 
--- "Bit reader: 5, 7": the next number, or the end, of a field that the octets hold as far as its last number
-unfoldable pub taken_at : List ℕ → Cursor → Taken
+-- "Bit reader: 5, 7": the next number, or none, of a field that the octets hold as far as its last number
+unfoldable pub taken_at : List ℕ → Cursor → Result (Option ℕ) Refusal
 taken_at octets c =
-    first taken.Refused
+    first Err
     (outside c gives Width ∷ ltb (length octets) (span_of c.place.0 c.width c.left) gives Short ∷ [])
-    (number_in (stepped octets c))
+    (Ok (number_in (stepped octets c)))
 
 -- the cursor behind the next k numbers, or behind the last; one that is refused stays
 abbrev pub behind_numbers : Cursor → ℕ → Cursor
