@@ -73,13 +73,6 @@ impl Walk {
     }
 }
 
-// "length code × increment + length reference"
-fn coded_length(code: u32, increment: u8, reference: u32) -> usize
-    ensures { result ≡ code * increment + reference }
-{
-    code as usize * increment as usize + reference as usize
-}
-
 impl<'a> Groups<'a> {
     ghost use Rattle.groups.specs.Groups.{codes_in};
 
@@ -118,8 +111,8 @@ impl<'a> Groups<'a> {
         if self.template.groups as usize <= g + 1 {
             return lengths.last as usize;
         }
-        let code = self.code(self.places.lengths, g, lengths.bits);
-        coded_length(code, lengths.increment, lengths.reference)
+        let code = self.code(self.places.lengths, g, lengths.bits) as usize;
+        code * lengths.increment as usize + lengths.reference as usize
     }
 
     pub fn group(&self, g: usize) -> PackedGroup

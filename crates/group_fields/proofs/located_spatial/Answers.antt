@@ -1,10 +1,9 @@
 -- `group_fields::located_spatial` meets its contract. Assumes nothing.
 use mathlib.Core.Path.{◌∙◌}
-use Rattle.std.proofs.lemmas.Result.{err_from_is_err_and}
 use Rattle.format.specs.Template.{kind_refusals}
 use Rattle.format.specs.Differences.{locate53}
 use Rattle.laws.specs.First.{decides, leaves, tests}
-use Rattle.group_fields.proofs.Checks.{check-refused, check-passed}
+use Rattle.group_fields.proofs.Checks.{passed_on, check-refused, check-passed}
 use Rattle.group_fields.proofs.Order.{map_located, located-by}
 use native.Mathlib.Omega.{arith}
 use Rattle.group_fields.proofs.located_spatial.Goals as goal
@@ -15,9 +14,7 @@ returns-then-differencing-eq0 c = decides _ _ _ _ (omega (arith, tests))
 
 pub returns-in_err-check_kind : goal.returns-in_err-check_kind
 unfolding locate53
-returns-in_err-check_kind c =
-    let p = err_from_is_err_and c.from_residual.result c.from_residual.ensures.1 in
-    rw (p.1, p.2) (check-refused _ _ (kind_refusals c.args.template) c.check_kind.ensures c.in_err-check_kind.was ∙ leaves _ 2 _ _ (omega (arith, tests)))
+returns-in_err-check_kind c = passed_on c.from_residual.ensures.1 (check-refused _ _ (kind_refusals c.args.template) c.check_kind.ensures c.in_err-check_kind.was ∙ leaves _ 2 _ _ (omega (arith, tests)))
 
 pub returns-then-differencing-eq0-2 : goal.returns-then-differencing-eq0-2
 unfolding locate53

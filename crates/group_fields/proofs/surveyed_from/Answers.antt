@@ -1,16 +1,13 @@
 -- `group_fields::surveyed_from` meets its contract. Assumes nothing.
-use Rattle.std.proofs.lemmas.Result.{err_from_is_err_and}
 use Rattle.format.specs.Template.{field_refusals}
 use Rattle.laws.specs.Accepting.{laid}
-use Rattle.group_fields.proofs.Checks.{check-refused}
+use Rattle.group_fields.proofs.Checks.{passed_on, check-refused}
 use Rattle.group_fields.proofs.Order.{passing, fields-short, fields-there}
 use native.Mathlib.Omega.{arith}
 use Rattle.group_fields.proofs.surveyed_from.Goals as goal
 
 pub returns-in_err-check_fields : goal.returns-in_err-check_fields
-returns-in_err-check_fields c =
-    let p = err_from_is_err_and c.from_residual.result c.from_residual.ensures.1 in
-    rw (p.1, p.2) (check-refused _ _ (field_refusals c.args.template) c.check_fields.ensures c.in_err-check_fields.was)
+returns-in_err-check_fields c = passed_on c.from_residual.ensures.1 (check-refused _ _ (field_refusals c.args.template) c.check_fields.ensures c.in_err-check_fields.was)
 
 pub parts_of-places-requires : goal.parts_of-places-requires
 parts_of-places-requires c = (passing _ c.check_fields.ensures c.in_ok-check_fields.was, omega arith, omega arith)
