@@ -9,26 +9,26 @@ use native.Mathlib.Omega.{arith}
 use lib.Dec.{eqb, ltb}
 use lib.ListN.{length}
 use borrow.Author.Tests.{ltb-true, ltb-false, eqb-true, eq-eqb}
-use Rattle.format.specs.Refusals.{Row, limit, first, room_refusals, refusal_number, unrolled_number, Left, left}
+use Rattle.format.specs.Refusals.{Row, limit, first, room_refusals, refusal_number, answer_number, Left, left}
 use Rattle.format.specs.Lists.{◌over◌}
 use Rattle.format.specs.Layout.{level_size, level_octets}
 use Rattle.format.specs.RunLength.{whole_codes, codes_up_to, levels_up_to, only_padding, stops_before, codes_read, repeats_first, run_length_refusals, run_length_up_to, run_length}
 use Rattle.format.specs.declared.Refusal.{Refusal}
 use Rattle.format.specs.declared.Refusal.TheVariants.{Width, Repeat, Points}
-use Rattle.format.specs.declared.Unrolled.{Unrolled}
-use Rattle.format.specs.declared.Unrolled.TheVariants as unrolled
 use Rattle.laws.specs.First.{Gives, decides, leaves, tests}
 use Rattle.laws.specs.Lists.{both, where-up-to, where-holds, where-is}
 use Rattle.laws.specs.RunLength.{padding-few, padding-zero, zero-padding, length-padded}
 use Rattle.run_length.specs.Claims.{run_length_of_all, NothingAcceptedChanges, PaddingLeft, NineNarrowed, FirstIsRead, NumberFour}
 use Rattle.run_length.proofs.Codes.{whole-bits}
+use Rattle.std.specs.declared.result.Result.{Result}
+use Rattle.std.specs.declared.result.Result.TheVariants.{Ok, Err}
 
 module _ (b M declared : ℕ) (payload lent : List ℕ) where
   abbrev rows : ℕ → List Row
   rows n = run_length_refusals b M declared payload n lent
 
   -- a refusal of the first n codes
-  given : (n : ℕ) (r : Refusal) → Gives (refusal_number r) (rows n) → left (unrolled.Refused r) lent ≡ run_length_up_to b M declared payload n lent
+  given : (n : ℕ) (r : Refusal) → Gives (refusal_number r) (rows n) → left (Err r) lent ≡ run_length_up_to b M declared payload n lent
   unfolding run_length_up_to
   given n r h = decides _ r _ _ h
 
@@ -122,7 +122,7 @@ module _ (b M declared : ℕ) (payload lent : List ℕ) where
         (λ l. rw (eq-eqb (length (levels_up_to b M payload p.codes)) declared p.reached, padded))
 
     -- all codes mean more levels than are declared
-    refused : run_length_of_all b M declared payload lent ≡ left (unrolled.Refused Points) lent
+    refused : run_length_of_all b M declared payload lent ≡ left (Err Points) lent
     refused =
         sym
         (given (whole_codes b payload) Points
@@ -130,13 +130,13 @@ module _ (b M declared : ℕ) (payload lent : List ℕ) where
 
     -- those that are read mean as many, and what is left to refuse is 10
     accepted : run_length b M declared payload lent
-        ≡ first (λ r. left (unrolled.Refused r) lent) (room_refusals level_size lent declared)
-        (left (unrolled.Levels declared) (flat_map level_octets (levels_up_to b M payload p.codes) over lent))
+        ≡ first (λ r. left (Err r) lent) (room_refusals level_size lent declared)
+        (left (Ok declared) (flat_map level_octets (levels_up_to b M payload p.codes) over lent))
     unfolding run_length_up_to
     accepted =
         ap (λ (n : ℕ). run_length_up_to b M declared payload n lent) read_is
         ∙ sym
-        (leaves (λ r. left (unrolled.Refused r) lent) 6 (rows p.codes) _
+        (leaves (λ r. left (Err r) lent) 6 (rows p.codes) _
         (omega (arith, tests, p.low, p.level-first, p.limited, p.reached, narrow p.codes p.another p.few)))
 
 nine-narrowed : NineNarrowed
@@ -149,7 +149,7 @@ nine-narrowed b M declared payload lent = record {
 nothing-accepted-changes : NothingAcceptedChanges
 nothing-accepted-changes b M declared payload lent count e =
     ⊎_elim (λ same. same)
-    (λ p. absurd (omega (arith, ap unrolled_number (sym (ap (λ (l : Left Unrolled). l.answer) (refused b M declared payload lent p)) ∙ e))))
+    (λ p. absurd (omega (arith, ap answer_number (sym (ap (λ (l : Left (Result ℕ Refusal)). l.answer) (refused b M declared payload lent p)) ∙ e))))
     (elsewhere b M declared payload lent)
 
 -- before it there are eight bits and more

@@ -14,9 +14,9 @@ use Rattle.format.specs.Refusals.{limit, first, left}
 use Rattle.format.specs.RunLength.{whole_codes, codes_up_to, levels_of, levels_up_to, only_padding, codes_read, repeats_first, run_length_up_to, run_length}
 use Rattle.format.specs.Seen.{Seen, lent, refused, levels, unrolls, unrolling}
 use Rattle.format.specs.declared.Refusal.TheVariants.{Points}
-use Rattle.format.specs.declared.Unrolled.TheVariants as unrolled
 use Rattle.laws.specs.First.{decides, tests}
 use Rattle.run_length.specs.Claims.{run_length_of_all}
+use Rattle.std.specs.declared.result.Result.TheVariants.{Err}
 
 -- by document 01's rule
 abbrev unrolling_all : ℕ → ℕ → ℕ → List ℕ → Seen
@@ -126,6 +126,6 @@ count : Reached 4 0 4556251 long 7
 unfolding listed bit_in number_of levels_up_to
 count = level-zero 15 (1 ∷ 1 ∷ 1 ∷ 1 ∷ 1 ∷ 7 ∷ []) ∙ ap suc digits
 
-limited : Low 4 0 × LevelFirst 4 0 long × Another 4 long 7 × Few 4 long 7 × NoneSet 4 long 7 × (left (unrolled.Refused Points) [] ≡ run_length 4 0 4556251 long [])
+limited : Low 4 0 × LevelFirst 4 0 long × Another 4 long 7 × Few 4 long 7 × NoneSet 4 long 7 × (left (Err Points) [] ≡ run_length 4 0 4556251 long [])
 unfolding listed bit_in number_of repeats_first run_length_up_to
 limited = (omega arith, refl, omega arith, omega arith, refl, decides _ Points _ _ (omega (arith, tests)))

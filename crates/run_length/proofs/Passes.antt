@@ -3,31 +3,31 @@ use mathlib.Core.Path.{◌≡◌, refl, sym, ap, ◌∙◌}
 use mathlib.Core.Bool.{Bool, true, false, ◌||◌}
 use mathlib.Core.List.{List, [], ◌∷◌, ◌++◌, append_assoc, append-nil, flat_map}
 use Prim.Native.Nat.{ℕ, zero, suc, ◌+◌, ◌-◌, ◌*◌, ◌≤◌, ◌<◌, min}
-use native.Mathlib.Nat.{sub_self, sub-zero, zero-sub, zero-mul, zero-add, add-mul, one-mul}
+use native.Mathlib.Nat.{sub-zero, zero-sub, zero-mul, zero-add, add-mul, one-mul}
 use native.Mathlib.Omega.{arith}
 use lib.Dec.{eqb, ltb}
 use borrow.Author.Tests.{ltb-false}
-use lib.ListN.{length, replicate, take, drop, length-replicate, replicate-append-replicate}
+use Rattle.std.proofs.Common.{length-take-le}
+use lib.ListN.{length, replicate, take, drop, drop_of_length-le, length-replicate}
 use lib.Seq.{sets, length-sets, take-nil, take_all}
 use mir.Val.{Fits}
 use mir.Syntax.{w16, w64}
-use Rattle.format.specs.Lists.{listed, ◌over◌}
+use Rattle.format.specs.Lists.{listed, whole_ones, ◌over◌}
 use Rattle.format.specs.Refusals.{Row, limit, refusal_number, left}
 use Rattle.format.specs.Bits.{number_at}
 use Rattle.format.specs.Layout.{level_size, level_octets}
 use Rattle.format.specs.RunLength.{base_of, codes_up_to, levels_of, levels_up_to, stops_before, codes_read, code_refusals, run_length_refusals, run_length_up_to, run_length}
 use Rattle.format.specs.declared.Refusal.{Refusal}
-use Rattle.format.specs.declared.Refusal.TheVariants.{Width}
-use Rattle.format.specs.declared.Unrolled.TheVariants as unrolled
 use Rattle.laws.specs.First.{Gives, Clear, gives-front, decides, clears}
 use Rattle.laws.specs.Lists.{length-listed, length_more, listed_more, either_left, either-right}
-use Rattle.laws.specs.Stores.{sets-append, flat_append, length-flat, flat-over}
+use Rattle.laws.specs.Stores.{length-flat, flat-over}
 use Rattle.run_length.specs.Runs.{cap, place_of, Coding, Within, Waiting, meaning, Exactly, More, Unrolling, first_run}
 use Rattle.run_length.specs.declared.Run.{Run}
 use Rattle.run_length.specs.declared.Turn.{Turn}
 use Rattle.run_length.proofs.Turns.{taken-code}
 use Rattle.run_length.proofs.Codes.{ends, read-up-to, goes-on-more}
 use Rattle.run_length.proofs.Caps.{sum-capped, rest-capped, equal-capped}
+use Rattle.std.specs.declared.result.Result.TheVariants.{Ok, Err}
 
 first-within : (payload : List ℕ) → Within payload first_run
 first-within payload = record { bit-low = omega arith; inside = omega arith; level-low = omega arith; weight-low = omega arith }
@@ -37,48 +37,10 @@ first-within payload = record { bit-low = omega arith; inside = omega arith; lev
 size-level : (level : ℕ) → length (level_octets level) ≡ level_size
 size-level level = length-listed level_size _
 
--- the places before k are stored
-pub record Repeating (levels₀ : List ℕ) (from to level : ℕ) (levels : List ℕ) (k : ℕ) : Type 0 where
-  pub low : from ≤ k
-  pub high : k - from ≤ to - from
-  pub long : length levels ≡ length levels₀
-  pub there : levels ≡ sets levels₀ (from * level_size) (flat_map level_octets (replicate (k - from) level))
-
-pub repeating-start : (levels : List ℕ) (from to level : ℕ) → Repeating levels from to level levels from
-unfolding flat_map
-repeating-start levels from to level = record { low = omega arith; high = omega arith; long = refl; there = rw (sub_self from) }
-
-module _ {levels₀ levels : List ℕ} {from to level k : ℕ} (s : Repeating levels₀ from to level levels k) where
-  pub repeating-more : {levels' : List ℕ} → k < to → levels' ≡ sets levels (k * level_size) (level_octets level) → Repeating levels₀ from to level levels' (k + 1)
-  unfolding flat_map
-  repeating-more {levels'} l e =
-      let n : ℕ = k - from in
-      let xs = flat_map level_octets (replicate n level) in
-      let place : k * level_size ≡ from * level_size + length xs = omega (arith, s.low, length-flat level_octets level_size size-level (replicate n level), ap (λ (m : ℕ). m * level_size) (length-replicate n level)) in
-      let next : n + 1 ≡ k + 1 - from = omega (arith, s.low) in
-      record {
-        low = omega (arith, s.low);
-        high = omega (arith, s.low);
-        long = ap length e ∙ length-sets levels (k * level_size) (level_octets level) ∙ s.long;
-        there =
-            e ∙ rw (place, s.there) (sets-append levels₀ (from * level_size) xs (level_octets level))
-            ∙ ap (sets levels₀ (from * level_size))
-            (ap (λ (l : List ℕ). xs ++ l) (sym (append-nil (level_octets level))) ∙ sym (flat_append level_octets (replicate n level) (replicate 1 level))
-            ∙ ap (flat_map level_octets) (replicate-append-replicate n 1 level ∙ ap (λ (m : ℕ). replicate m level) next));
-      }
-
-  pub repeating-end : (end room : ℕ) → to ≡ min end room → to ≤ k → levels ≡ sets levels₀ (from * level_size) (flat_map level_octets (replicate (min end room - from) level))
-  repeating-end end room et l = let e : min end room - from ≡ k - from = omega (arith, s.high) in rw e s.there
-
--- nothing where there is no room
-pub repeating-none : (levels : List ℕ) (from end room level : ℕ) → room ≤ from → levels ≡ sets levels (from * level_size) (flat_map level_octets (replicate (min end room - from) level))
-unfolding flat_map
-repeating-none levels from end room level l = let e : min end room - from ≡ 0 = omega arith in rw e
-
 -- ---- walking
 
 -- `taken` codes stand before the run, reading stops before none of them, and the levels that they mean are counted and stored
-pub record Unrolled (b M declared : ℕ) (payload : List ℕ) (room : ℕ) (lent : List ℕ) (r : Run) (points : ℕ) (levels : List ℕ) : Type 0 where
+pub record UnrolledTo (b M declared : ℕ) (payload : List ℕ) (room : ℕ) (lent : List ℕ) (r : Run) (points : ℕ) (levels : List ℕ) : Type 0 where
   pub within : Within payload r
   pub taken : ℕ
   pub place : place_of r ≡ taken * b
@@ -90,7 +52,7 @@ pub record Unrolled (b M declared : ℕ) (payload : List ℕ) (room : ℕ) (lent
   pub long : length levels ≡ length lent
   pub there : levels ≡ flat_map level_octets (take room (levels_up_to b M payload taken)) over lent
 
-pub unrolled-start : (b M declared : ℕ) (payload : List ℕ) (room : ℕ) (lent : List ℕ) {r : Run} → r ≡ first_run → Unrolled b M declared payload room lent r 0 lent
+pub unrolled-start : (b M declared : ℕ) (payload : List ℕ) (room : ℕ) (lent : List ℕ) {r : Run} → r ≡ first_run → UnrolledTo b M declared payload room lent r 0 lent
 unfolding flat_map levels_up_to levels_of listed
 unrolled-start b M declared payload room lent e = rw e record {
   within = first-within payload;
@@ -124,7 +86,7 @@ take_more room done n level =
     take-append room done (replicate n level)
     ∙ ap (λ (l : List ℕ). take room done ++ l) (take-replicate (room - length done) n level ∙ ap (λ (m : ℕ). replicate m level) e)
 
-module _ {b M declared : ℕ} {payload : List ℕ} {room : ℕ} {lent : List ℕ} {r : Run} {points : ℕ} {levels : List ℕ} (w : Unrolled b M declared payload room lent r points levels) where
+module _ {b M declared : ℕ} {payload : List ℕ} {room : ℕ} {lent : List ℕ} {r : Run} {points : ℕ} {levels : List ℕ} (w : UnrolledTo b M declared payload room lent r points levels) where
   -- the levels of the codes that are taken
   abbrev done : List ℕ
   done = levels_up_to b M payload w.taken
@@ -173,7 +135,7 @@ module _ {b M declared : ℕ} {payload : List ℕ} {room : ℕ} {lent : List ℕ
         (omega (arith, same, length-replicate c next.level)))
 
     unrolled-more : {levels' : List ℕ} → levels' ≡ sets levels (points * level_size) (flat_map level_octets (replicate (min end room - points) next.level))
-        → Unrolled b M declared payload room lent next end levels'
+        → UnrolledTo b M declared payload room lent next end levels'
     unrolled-more {levels'} e = record {
       within = m.within;
       taken = w.taken + 1;
@@ -228,22 +190,29 @@ module _ {b M declared : ℕ} {payload : List ℕ} {room : ℕ} {lent : List ℕ
         unrolled-less = omega (arith, taken_more.ahead, c.some, inside)
 
         pub unrolled-next : room ≤ limit → room * level_size ≤ length lent → {end : ℕ} → end ≡ min (points + x.points) cap → {levels' : List ℕ}
-            → levels' ≡ sets levels (points * level_size) (flat_map level_octets (replicate (min end room - points) x.next.level)) → Unrolled b M declared payload room lent x.next end levels'
+            → levels' ≡ sets levels (points * level_size) (flat_map level_octets (replicate (min end room - points) x.next.level)) → UnrolledTo b M declared payload room lent x.next end levels'
         unrolled-next low fits ee e = unrolled-more low fits on-here taken_more ee e
 
 -- ---- what a caller knows
 
-module _ {b M declared : ℕ} {payload lent : List ℕ} {points : ℕ} {levels : List ℕ} where
-  -- with no room nothing is stored
-  pub unrolling-none : Unrolling b M declared payload 0 lent points levels → levels ≡ lent
-  unfolding flat_map
-  unrolling-none w = w.there
+module _ {b M declared points : ℕ} {payload levels : List ℕ} (w : Unrolling b M declared payload 0 [] points levels) (e : points ≡ declared) (low : declared ≤ limit) where
+  abbrev all : List ℕ
+  all = levels_up_to b M payload (codes_read b M declared payload)
 
-  -- and with room for all of them, all are
-  pub unrolling-all : {levels' : List ℕ} {points' : ℕ} (room : ℕ) → Unrolling b M declared payload 0 lent points levels → points ≡ room → room ≤ limit
-      → Unrolling b M declared payload room levels points' levels' → levels' ≡ flat_map level_octets (levels_up_to b M payload (codes_read b M declared payload)) over lent
-  unrolling-all room w e l w' =
-      w'.there ∙ rw (unrolling-none w, take_all room (levels_up_to b M payload (codes_read b M declared payload)) (omega (arith, w.count, e, l)))
+  -- a count below the cap is that of the levels
+  counted-all : length all ≡ declared
+  counted-all = omega (arith, w.count, e, low)
+
+  -- and octets for all of them hold all of them, in front of the octets behind
+  pub unrolling-all : (lent : List ℕ) {points' : ℕ} {front levels' : List ℕ} → declared ≤ whole_ones level_size lent → front ≡ take (declared * level_size) lent
+      → Unrolling b M declared payload (whole_ones level_size front) front points' levels' → levels' ++ drop (declared * level_size) lent ≡ flat_map level_octets all over lent
+  unrolling-all lent {front = front} {levels' = levels'} m ef w' =
+      let long : length front ≡ declared * level_size = ap length ef ∙ length-take-le (declared * level_size) lent (omega arith) in
+      let octets : length (flat_map level_octets all) ≡ declared * level_size = length-flat level_octets level_size size-level all ∙ ap (λ (n : ℕ). n * level_size) counted-all in
+      let whole : take (whole_ones level_size front) all ≡ all = take_all (whole_ones level_size front) all (omega (arith, counted-all, long)) in
+      let there : levels' ≡ flat_map level_octets all =
+      w'.there ∙ rw (whole, octets, drop_of_length-le front {i = declared * level_size} (omega (arith, long))) (append-nil (flat_map level_octets all)) in
+      rw (there, octets)
 
 -- ---- the answers
 
@@ -252,14 +221,14 @@ module _ (b M declared : ℕ) (payload lent : List ℕ) where
   rows = run_length_refusals b M declared payload (codes_read b M declared payload) lent
 
   -- a refusal: the lent octets are as they were
-  pub refused-behind : (r : Refusal) {levels : List ℕ} → levels ≡ lent → Gives (refusal_number r) rows → left (unrolled.Refused r) levels ≡ run_length b M declared payload lent
+  pub refused-behind : (r : Refusal) → Gives (refusal_number r) rows → left (Err r) lent ≡ run_length b M declared payload lent
   unfolding run_length_up_to
-  refused-behind r e h = ap (left (unrolled.Refused r)) e ∙ decides _ r _ _ h
+  refused-behind r h = decides _ r _ _ h
 
-  pub refused-code : Gives (refusal_number Width) (code_refusals b M) → left (unrolled.Refused Width) lent ≡ run_length b M declared payload lent
-  refused-code h = refused-behind Width refl (gives-front (refusal_number Width) (code_refusals b M) (drop (length (code_refusals b M)) rows) h)
+  pub refused-code : (r : Refusal) → Gives (refusal_number r) (code_refusals b M) → left (Err r) lent ≡ run_length b M declared payload lent
+  refused-code r h = refused-behind r (gives-front (refusal_number r) (code_refusals b M) (drop (length (code_refusals b M)) rows) h)
 
   pub stored-behind : {levels : List ℕ} → levels ≡ flat_map level_octets (levels_up_to b M payload (codes_read b M declared payload)) over lent → Clear rows
-      → left (unrolled.Levels declared) levels ≡ run_length b M declared payload lent
+      → left (Ok declared) levels ≡ run_length b M declared payload lent
   unfolding run_length_up_to
-  stored-behind e h = ap (left (unrolled.Levels declared)) e ∙ clears _ _ _ h
+  stored-behind e h = ap (left (Ok declared)) e ∙ clears _ _ _ h

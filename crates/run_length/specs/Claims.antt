@@ -7,19 +7,20 @@ use Rattle.format.specs.Bits.{bit_at}
 use Rattle.format.specs.Layout.{level_size, level_octets}
 use Rattle.format.specs.Refusals.{limit, first, room_refusals, Left, left}
 use Rattle.format.specs.RunLength.{whole_codes, codes_up_to, levels_up_to, codes_read, repeats_first, run_length_up_to, run_length}
+use Rattle.format.specs.declared.Refusal.{Refusal}
 use Rattle.format.specs.declared.Refusal.TheVariants.{Points}
-use Rattle.format.specs.declared.Unrolled.{Unrolled}
-use Rattle.format.specs.declared.Unrolled.TheVariants as unrolled
+use Rattle.std.specs.declared.result.Result.{Result}
+use Rattle.std.specs.declared.result.Result.TheVariants.{Ok, Err}
 
 -- Document 01's rule, which No. 4 amends: "All whole codes in the payload are read".
-abbrev pub run_length_of_all : ℕ → ℕ → ℕ → List ℕ → List ℕ → Left Unrolled
+abbrev pub run_length_of_all : ℕ → ℕ → ℕ → List ℕ → List ℕ → Left (Result ℕ Refusal)
 run_length_of_all b M declared payload lent = run_length_up_to b M declared payload (whole_codes b payload) lent
 
 -- ---- "Nothing accepted earlier changes.": answer and lent levels
 
 abbrev pub NothingAcceptedChanges : Type 0
 NothingAcceptedChanges =
-    (b M declared : ℕ) (payload lent : List ℕ) (count : ℕ) → (run_length_of_all b M declared payload lent).answer ≡ unrolled.Levels count
+    (b M declared : ℕ) (payload lent : List ℕ) (count : ℕ) → (run_length_of_all b M declared payload lent).answer ≡ Ok count
     → run_length b M declared payload lent ≡ run_length_of_all b M declared payload lent
 
 -- ---- "Refusals: 9 is narrowed as said."
@@ -42,10 +43,10 @@ pub record PaddingLeft (b M declared : ℕ) (payload : List ℕ) : Type 0 where
 -- is lent. Everywhere else the two answer alike, 5, 11 and 10 too.
 pub record Narrowed (b M declared : ℕ) (payload lent : List ℕ) : Type 0 where
   pub elsewhere : (run_length b M declared payload lent ≡ run_length_of_all b M declared payload lent) ⊎ PaddingLeft b M declared payload
-  pub refused : PaddingLeft b M declared payload → run_length_of_all b M declared payload lent ≡ left (unrolled.Refused Points) lent
+  pub refused : PaddingLeft b M declared payload → run_length_of_all b M declared payload lent ≡ left (Err Points) lent
   pub accepted : (p : PaddingLeft b M declared payload) → run_length b M declared payload lent
-      ≡ first (λ r. left (unrolled.Refused r) lent) (room_refusals level_size lent declared)
-      (left (unrolled.Levels declared) (flat_map level_octets (levels_up_to b M payload p.codes) over lent))
+      ≡ first (λ r. left (Err r) lent) (room_refusals level_size lent declared)
+      (left (Ok declared) (flat_map level_octets (levels_up_to b M payload p.codes) over lent))
 
 abbrev pub NineNarrowed : Type 0
 NineNarrowed = (b M declared : ℕ) (payload lent : List ℕ) → Narrowed b M declared payload lent

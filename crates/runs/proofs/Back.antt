@@ -15,7 +15,7 @@ use Rattle.format.specs.WritingRunLength.{digits_up_to, digits_of, runs_of, run_
 use Rattle.format.specs.declared.LevelRun.{LevelRun}
 use Rattle.laws.specs.Lists.{any_append}
 use Rattle.laws.specs.RunLength.{behind, levels-same}
-use Rattle.runs.proofs.Digits.{digit-less}
+use Rattle.runs.proofs.DigitsOf.{digit-less}
 use Rattle.runs.specs.Claims.{unrolled_run}
 use Rattle.runs.proofs.Runs.{any_same}
 use Rattle.runs.proofs.Longest.{runs-longest, LowRuns, first_some, first-low, others, runs-of}

@@ -15,8 +15,6 @@ use Rattle.format.specs.Layout.{level_size, level_octets}
 use Rattle.format.specs.Refusals.{first, room_refusals, left}
 use Rattle.format.specs.RunLength.{whole_codes, codes_up_to, base_of, levels_of, levels_up_to, only_padding, stops_before, codes_read, repeats_first, run_length_refusals, run_length_up_to}
 use Rattle.format.specs.WritingRunLength.{runs_of, level_codes, level_payload, write_run_length_refusals, write_run_length}
-use Rattle.format.specs.declared.Stored.TheVariants as stored
-use Rattle.format.specs.declared.Unrolled.TheVariants as unrolled
 use Rattle.laws.specs.First.{leaves, clears, tests}
 use Rattle.laws.specs.Lists.{either_left, either-right, both, where-holds, where-first}
 use Rattle.laws.specs.Bits.{bit-listed, field-add}
@@ -30,6 +28,7 @@ use Rattle.runs.proofs.Answer.{accepted}
 use Rattle.runs.proofs.Longest.{runs-longest, runs-are}
 use Rattle.runs.proofs.Few.{payload-few}
 use Rattle.runs.proofs.Back.{levels-codes, first_code, codes-fit}
+use Rattle.std.specs.declared.result.Result.TheVariants.{Ok, Err}
 
 -- the front of a list that is as long as the list
 front-all : (front rest : List ℕ) {all : List ℕ} → front ++ rest ≡ all → length front ≡ length all → front ≡ all
@@ -125,10 +124,10 @@ levels-back b M levels w lent =
     let all = read_all b M levels w.coding.some w.coding.low w.none_above in
     let reached = ap length all in
     sym
-    (leaves (λ r. left (unrolled.Refused r) lent) 6 (run_length_refusals b M (length levels) payload read lent) _
+    (leaves (λ r. left (Err r) lent) 6 (run_length_refusals b M (length levels) payload read lent) _
     (omega (arith, tests, w.coding.some, w.coding.few, w.coding.low, w.limited, first-level b M levels w.coding.some w.coding.low w.none_above, reached)))
     ∙ ap
-    (λ (l : List ℕ). first (λ r. left (unrolled.Refused r) lent) (room_refusals level_size lent (length levels)) (left (unrolled.Levels (length levels)) (flat_map level_octets l over lent)))
+    (λ (l : List ℕ). first (λ r. left (Err r) lent) (room_refusals level_size lent (length levels)) (left (Ok (length levels)) (flat_map level_octets l over lent)))
     all
 
 -- levels of no bits are all 0
@@ -157,7 +156,7 @@ accepted-written b M levels lent octets payload e =
 writable-accepted : WritableIsAccepted
 unfolding write_run_length
 writable-accepted b M levels lent w room =
-    sym (clears (λ r. left (stored.Refused r) lent) (write_run_length_refusals b M levels lent) _ (omega (arith, tests, w.coding.some, w.coding.few, w.coding.low, w.none_above, w.limited)))
+    sym (clears (λ r. left (Err r) lent) (write_run_length_refusals b M levels lent) _ (omega (arith, tests, w.coding.some, w.coding.few, w.coding.low, w.none_above, w.limited)))
 
 are-longest : RunsAreLongest
 are-longest levels = (runs-longest levels, λ runs l. sym (runs-are runs l.none-empty l.none-twice) ∙ ap runs_of l.make)

@@ -1,12 +1,12 @@
 -- The codes of runs, one run after another. Assumes nothing.
 use mathlib.Core.Path.{◌≡◌, refl, sym, ap, ◌∙◌}
 use mathlib.Core.Bool.{Bool, true, false, ◌||◌, false≢true}
-use mathlib.Core.List.{List, [], ◌∷◌, ◌++◌, map, flat_map}
-use Prim.Native.Nat.{ℕ, ◌+◌, ◌-◌, ◌/◌, ◌%◌, ◌^◌, ◌≤◌, ◌<◌}
+use mathlib.Core.List.{List, [], ◌∷◌, map, flat_map}
+use Prim.Native.Nat.{ℕ, ◌+◌, ◌-◌, ◌^◌, ◌≤◌, ◌<◌}
 use native.Mathlib.Omega.{arith}
 use lib.Dec.{ltb}
 use lib.Pow.{pow_pos, pow_mono}
-use lib.ListN.{length, replicate, drop, length-append, length-replicate, drop_of_length-le}
+use lib.ListN.{length, replicate, length-append, length-replicate}
 use borrow.Author.Tests.{lt-ltb, le-ltb}
 use Rattle.format.specs.Lists.{any_of}
 use Rattle.format.specs.Bits.{span_of}
@@ -14,111 +14,96 @@ use Rattle.format.specs.WritingRunLength.{digits_of, runs_of, run_codes, level_c
 use Rattle.format.specs.declared.Refusal.TheVariants.{Numbers}
 use Rattle.format.specs.declared.LevelRun.{LevelRun}
 use Rattle.format.specs.declared.OctetPlace.{OctetPlace}
-use Rattle.format.specs.declared.Stored.TheVariants as stored
 use Rattle.laws.specs.First.{decides, clears}
-use Rattle.laws.specs.Lists.{length-map, any-end}
+use Rattle.laws.specs.Lists.{length-map, either-right}
 use Rattle.laws.specs.Saying.{part-size}
-use Rattle.runs.specs.Runs.{Begins, Codable, digit_codes, counted}
-use Rattle.runs.specs.declared.LevelCoding.{LevelCoding}
-use Rattle.runs.proofs.Digits.{digits-next, digits_last, digits-none}
-use Rattle.runs.proofs.Runs.{begins-runs, begins-any}
+use Rattle.run_length.specs.declared.coding.LevelCoding.{LevelCoding}
+use Rattle.runs.specs.Runs.{counted}
+use Rattle.runs.specs.Claims.{unrolled_run, is_empty}
+use Rattle.runs.proofs.Runs.{any-replicate}
+use Rattle.runs.proofs.Longest.{runs-longest, run-some}
+use Rattle.std.specs.declared.result.Result.TheVariants.{Ok, Err}
 
 -- ---- codes fit their bits
 
-module _ {c : LevelCoding} (h : Codable c) where
+module _ (c : LevelCoding) where
   pub level-fits : {level : ℕ} → level ≤ c.greatest → level < 2 ^ c.bits
-  level-fits l = omega (arith, h.coding.low, pow_pos c.bits)
+  level-fits l = omega (arith, c.accepted.low, pow_pos c.bits)
 
   pub digit-fits : {digit : ℕ} → digit < c.base → c.greatest + 1 + digit < 2 ^ c.bits
-  digit-fits l = omega (arith, h.base-is, h.coding.low)
+  digit-fits l = omega (arith, c.base_is, c.accepted.low)
 
   -- and are far from wrapping
   pub digit-small : {digit : ℕ} → digit < c.base → c.greatest + 1 + digit < 2 ^ 15
-  digit-small l = omega (arith, digit-fits l, pow_mono {j = 15} h.coding.few)
-
--- ---- of a number
-
-module _ (c : LevelCoding) where
-  pub codes-none : {rest : ℕ} → rest ≡ 0 → digit_codes c rest ≡ []
-  codes-none e = rw e (ap (map (λ digit. c.greatest + 1 + digit)) (digits-none c.base))
-
-  module _ (some : 2 ≤ c.base) {rest : ℕ} where
-    pub codes-next : c.base ≤ rest → digit_codes c rest ≡ (c.greatest + 1 + rest % c.base) ∷ digit_codes c (rest / c.base)
-    codes-next l = ap (map (λ digit. c.greatest + 1 + digit)) (digits-next c.base some rest (omega arith))
-
-    pub codes-last : (rest ≡ 0 → ⊥) → rest < c.base → digit_codes c rest ≡ (c.greatest + 1 + rest) ∷ []
-    codes-last h l = ap (map (λ digit. c.greatest + 1 + digit)) (digits_last c.base some rest (omega arith) l)
+  digit-small l = omega (arith, digit-fits l, pow_mono {j = 15} c.accepted.few)
 
 -- ---- of a run
 
-module _ (c : LevelCoding) (run : LevelRun) where
-  pub codes-repeated : c.base < 2 → run_codes c.greatest c.base run ≡ replicate run.length run.level
+module _ (M base : ℕ) (run : LevelRun) where
+  pub codes-repeated : base < 2 → run_codes M base run ≡ replicate run.length run.level
   unfolding run_codes
-  codes-repeated l = rw (lt-ltb c.base 2 l)
+  codes-repeated l = rw (lt-ltb base 2 l)
 
-  pub codes-digits : 2 ≤ c.base → run_codes c.greatest c.base run ≡ run.level ∷ digit_codes c (run.length - 1)
+  pub codes-digits : 2 ≤ base → run_codes M base run ≡ run.level ∷ map (λ digit. M + 1 + digit) (digits_of base (run.length - 1))
   unfolding run_codes
-  codes-digits l = rw (le-ltb c.base 2 l)
+  codes-digits l = rw (le-ltb base 2 l)
 
-  pub count-repeated : c.base < 2 → (run.length ≡ length (run_codes c.greatest c.base run)) × (run.length ≤ run.length)
-  count-repeated l = (sym (ap length (codes-repeated l) ∙ length-replicate run.length run.level), omega arith)
+  pub count-repeated : base < 2 → run.length ≡ length (run_codes M base run)
+  count-repeated l = sym (ap length (codes-repeated l) ∙ length-replicate run.length run.level)
 
-  pub count-digits : 2 ≤ c.base → 0 < run.length → {n : ℕ} → (n ≡ length (digits_of c.base (run.length - 1))) × (n ≤ run.length - 1)
-      → (1 + n ≡ length (run_codes c.greatest c.base run)) × (1 + n ≤ run.length)
-  count-digits l some e =
-      (omega (arith, e.0, ap length (codes-digits l), length-map (λ (digit : ℕ). c.greatest + 1 + digit) (digits_of c.base (run.length - 1))), omega (arith, e.1))
+  pub count-digits : 2 ≤ base → 1 + length (digits_of base (run.length - 1)) ≡ length (run_codes M base run)
+  count-digits l = omega (arith, ap length (codes-digits l), length-map (λ (digit : ℕ). M + 1 + digit) (digits_of base (run.length - 1)))
 
--- ---- of all runs from a place on
+-- ---- of all runs
 
-module _ (c : LevelCoding) (levels : List ℕ) where
-  abbrev pub codes_from : ℕ → List ℕ
-  codes_from place = flat_map (run_codes c.greatest c.base) (runs_of (drop place levels))
+abbrev pub codes_of : LevelCoding → List LevelRun → List ℕ
+codes_of c runs = flat_map (run_codes c.greatest c.base) runs
 
-  pub from_start : Codable c → codes_from 0 ≡ level_codes c.bits c.greatest levels
-  unfolding level_codes
-  from_start h = rw h.base-is
-
-  pub from_next : {place : ℕ} {run : LevelRun} → Begins levels place run → codes_from place ≡ run_codes c.greatest c.base run ++ codes_from (place + run.length)
-  unfolding flat_map
-  from_next b = ap (flat_map (run_codes c.greatest c.base)) (begins-runs b)
-
-  pub from_end : {place : ℕ} → length levels ≤ place → codes_from place ≡ []
-  unfolding flat_map runs_of
-  from_end {place} l = rw (drop_of_length-le levels {i = place} l)
+pub codes_all : (c : LevelCoding) (levels : List ℕ) → codes_of c (runs_of levels) ≡ level_codes c.bits c.greatest levels
+unfolding level_codes
+codes_all c levels = rw c.base_is
 
 -- ---- counting them
 
--- the levels before a place take so many codes, and none is above the greatest
-pub record Counting (c : LevelCoding) (levels : List ℕ) (codes place : ℕ) : Type 0 where
-  pub within : place ≤ length levels
-  pub few : codes ≤ place
-  pub all : codes + length (codes_from c levels place) ≡ length (level_codes c.bits c.greatest levels)
-  pub above : any_of (ltb c.greatest) levels ≡ any_of (ltb c.greatest) (drop place levels)
+-- the runs before `left` take so many codes, and none of them is above the greatest
+pub record Counting (c : LevelCoding) (levels : List ℕ) (codes : ℕ) (left : List LevelRun) : Type 0 where
+  pub some : any_of is_empty left ≡ false
+  pub all : codes + length (codes_of c left) ≡ length (level_codes c.bits c.greatest levels)
+  pub above : any_of (ltb c.greatest) levels ≡ any_of (ltb c.greatest) (flat_map unrolled_run left)
 
-pub counting-start : (c : LevelCoding) (levels : List ℕ) → Codable c → Counting c levels 0 0
-counting-start c levels h = record { within = omega arith; few = omega arith; all = omega (arith, ap length (from_start c levels h)); above = refl }
+pub counting-start : (c : LevelCoding) (levels : List ℕ) {left : List LevelRun} → left ≡ runs_of levels → Counting c levels 0 left
+counting-start c levels e =
+    let l = runs-longest levels in
+    rw e record { some = l.none-empty; all = omega (arith, ap length (codes_all c levels)); above = ap (any_of (ltb c.greatest)) (sym l.make) }
 
-module _ {c : LevelCoding} {levels : List ℕ} {codes place : ℕ} (i : Counting c levels codes place) where
-  module _ {run : LevelRun} (b : Begins levels place run) where
-    pub counting-above : c.greatest < run.level → stored.Refused Numbers ≡ counted c.bits c.greatest levels
+module _ {c : LevelCoding} {levels : List ℕ} {codes : ℕ} {left : List LevelRun} (i : Counting c levels codes left) where
+  module _ {run : LevelRun} {rest : List LevelRun} (e : left ≡ run ∷ rest) where
+    here : Counting c levels codes (run ∷ rest)
+    here = rw e at i
+
+    pub counting-some : 0 < run.length
+    counting-some = run-some run rest here.some
+
+    above-first : any_of (ltb c.greatest) levels ≡ (ltb c.greatest run.level || any_of (ltb c.greatest) (flat_map unrolled_run rest))
+    unfolding flat_map
+    above-first = here.above ∙ any-replicate (ltb c.greatest) run.level run.length (flat_map unrolled_run rest) counting-some
+
+    pub counting-above : c.greatest < run.level → Err Numbers ≡ counted c.bits c.greatest levels
     counting-above l =
-        let found : any_of (ltb c.greatest) levels ≡ true =
-        i.above ∙ begins-any b (ltb c.greatest) ∙ ap (λ (t : Bool). t || any_of (ltb c.greatest) (drop (place + run.length) levels)) (lt-ltb c.greatest run.level l) in
-        decides (λ r. stored.Refused r) Numbers _ _ (λ e. refl, λ e. absurd (false≢true (sym e ∙ found)))
+        let found : any_of (ltb c.greatest) levels ≡ true = above-first ∙ ap (λ (t : Bool). t || any_of (ltb c.greatest) (flat_map unrolled_run rest)) (lt-ltb c.greatest run.level l) in
+        decides Err Numbers _ _ (λ e. refl, λ e. absurd (false≢true (sym e ∙ found)))
 
-    pub counting-next : run.level ≤ c.greatest → {n : ℕ} → (n ≡ length (run_codes c.greatest c.base run)) × (n ≤ run.length) → Counting c levels (codes + n) (place + run.length)
-    counting-next l e = record {
-      within = b.within;
-      few = omega (arith, i.few, e.1);
-      all = omega (arith, i.all, e.0, ap length (from_next c levels b), length-append (run_codes c.greatest c.base run) (codes_from c levels (place + run.length)));
-      above =
-          i.above ∙ begins-any b (ltb c.greatest)
-          ∙ ap (λ (t : Bool). t || any_of (ltb c.greatest) (drop (place + run.length) levels)) (le-ltb c.greatest run.level l);
+    pub counting-next : run.level ≤ c.greatest → {n : ℕ} → n ≡ length (run_codes c.greatest c.base run) → Counting c levels (codes + n) rest
+    unfolding flat_map any_of
+    counting-next l en = record {
+      some = either-right (is_empty run) (any_of is_empty rest) here.some;
+      all = omega (arith, here.all, en, length-append (run_codes c.greatest c.base run) (codes_of c rest));
+      above = above-first ∙ ap (λ (t : Bool). t || any_of (ltb c.greatest) (flat_map unrolled_run rest)) (le-ltb c.greatest run.level l);
     }
 
-  pub counting-end : length levels ≤ place → {octets : OctetPlace} → octets.0 ≡ span_of 0 c.bits codes → stored.Span octets ≡ counted c.bits c.greatest levels
-  counting-end l {octets} e =
-      let none : any_of (ltb c.greatest) levels ≡ false = i.above ∙ any-end (ltb c.greatest) levels place l in
-      let size : length (level_codes c.bits c.greatest levels) ≡ codes = omega (arith, i.all, ap length (from_end c levels l)) in
-      ap (λ (n : ℕ). stored.Span (record { 0 = n })) (e ∙ sym (part-size c.bits (level_codes c.bits c.greatest levels) size))
-      ∙ clears (λ r. stored.Refused r) _ _ (none, tt)
+  pub counting-end : left ≡ [] → {octets : OctetPlace} → octets.0 ≡ span_of 0 c.bits codes → Ok octets ≡ counted c.bits c.greatest levels
+  unfolding flat_map any_of
+  counting-end e {octets} es =
+      let end : Counting c levels codes [] = rw e at i in
+      ap (λ (n : ℕ). Ok (record { 0 = n })) (es ∙ sym (part-size c.bits (level_codes c.bits c.greatest levels) (omega (arith, end.all))))
+      ∙ clears Err _ _ (end.above, tt)

@@ -1,4 +1,4 @@
-pub mod Digits
+pub mod DigitsOf
 pub mod Runs
 pub mod Codes
 pub mod Putting

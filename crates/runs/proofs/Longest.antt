@@ -92,6 +92,10 @@ runs-are (run ∷ runs) some apart =
 
 -- ---- run by run
 
+pub run-some : (run : LevelRun) (runs : List LevelRun) → any_of is_empty (run ∷ runs) ≡ false → 0 < run.length
+unfolding any_of
+run-some run runs h = let some = eqb-false run.length 0 (either_left (eqb run.length 0) (any_of is_empty runs) h) in omega arith
+
 -- runs of which none is empty, and whose levels are none above M: so is the first, and so are the others
 pub record LowRuns (M : ℕ) (runs : List LevelRun) : Type 0 where
   pub none-empty : any_of is_empty runs ≡ false
@@ -99,8 +103,7 @@ pub record LowRuns (M : ℕ) (runs : List LevelRun) : Type 0 where
 
 module _ {M : ℕ} {run : LevelRun} {runs : List LevelRun} (r : LowRuns M (run ∷ runs)) where
   pub first_some : 0 < run.length
-  unfolding any_of
-  first_some = let h = eqb-false run.length 0 (either_left (eqb run.length 0) (any_of is_empty runs) r.none-empty) in omega arith
+  first_some = run-some run runs r.none-empty
 
   levels-above : (ltb M run.level || any_of (ltb M) (flat_map unrolled_run runs)) ≡ false
   unfolding flat_map

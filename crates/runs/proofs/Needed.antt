@@ -16,14 +16,13 @@ use Rattle.format.specs.RunLength.{repeats_first, run_length_up_to, run_length}
 use Rattle.format.specs.WritingRunLength.{runs_from, runs_of, digits_up_to, digits_of, run_codes, level_codes, level_payload, write_run_length}
 use Rattle.format.specs.Seen.{Seen, lent, refused, unrolling, writing_levels}
 use Rattle.format.specs.declared.Refusal.TheVariants.{Points, Numbers}
-use Rattle.format.specs.declared.Stored.TheVariants as stored
-use Rattle.format.specs.declared.Unrolled.TheVariants as unrolled
 use Rattle.laws.specs.Lists.{either_left, either-right}
 use Rattle.laws.specs.First.{decides, tests}
 use Rattle.runs.specs.Claims.{value_of}
 use Rattle.runs.proofs.Runs.{any_same}
 use Rattle.runs.proofs.Answer.{refused-many}
 use Rattle.runs.proofs.Claims.{first-level}
+use Rattle.std.specs.declared.result.Result.TheVariants.{Err}
 
 abbrev Low : ℕ → ℕ → Type 0
 Low b M = M ≤ 2 ^ b - 1
@@ -59,12 +58,12 @@ unfolding listed any_of first flat_map bit_in number_of runs_from runs_of digits
 none_above = (omega arith, omega arith, omega arith, omega arith, refl)
 
 -- and more levels than the limit are 9. So long a list is not computed.
-many : (levels : List ℕ) → NoneAbove 0 levels → limit < length levels → left (unrolled.Refused Points) [] ≡ run_length 1 0 (length levels) (level_payload 1 0 levels) []
+many : (levels : List ℕ) → NoneAbove 0 levels → limit < length levels → left (Err Points) [] ≡ run_length 1 0 (length levels) (level_payload 1 0 levels) []
 unfolding run_length_up_to
-many levels h l = decides (λ r. left (unrolled.Refused r) []) Points _ _ (omega (arith, tests, first-level 1 0 levels (omega arith) (omega arith) h))
+many levels h l = decides (λ r. left (Err r) []) Points _ _ (omega (arith, tests, first-level 1 0 levels (omega arith) (omega arith) h))
 
 limited : (n : ℕ) → limit < n → (0 < 1) × (1 ≤ 15) × Low 1 0 × NoneAbove 0 (replicate n 0)
-    × (left (unrolled.Refused Points) [] ≡ run_length 1 0 (length {A = ℕ} (replicate n 0)) (level_payload 1 0 (replicate n 0)) [])
+    × (left (Err Points) [] ≡ run_length 1 0 (length {A = ℕ} (replicate n 0)) (level_payload 1 0 (replicate n 0)) [])
 limited n l = (omega arith, omega arith, omega arith, any_same (ltb 0) 0 n refl, many (replicate n 0) (any_same (ltb 0) 0 n refl) (omega (arith, length-replicate {A = ℕ} n 0)))
 
 -- ---- one list, one payload
@@ -98,7 +97,7 @@ writable : (writing_levels 0 0 (0 ∷ []) 1 ≡ refused 5 (lent 1 ∷ [])) × (w
 unfolding listed any_of first flat_map bit_in number_of runs_from runs_of digits_up_to digits_of run_codes level_codes write_run_length
 writable = (refl, refl, refl, refl)
 
-limited-written : (n : ℕ) → limit < n → left (stored.Refused Numbers) [] ≡ write_run_length 1 0 (replicate n 0) []
+limited-written : (n : ℕ) → limit < n → left (Err Numbers) [] ≡ write_run_length 1 0 (replicate n 0) []
 limited-written n l = refused-many 1 0 (replicate n 0) [] (refl, (refl, (refl, tt))) (omega (arith, length-replicate {A = ℕ} n 0))
 
 room : writing_levels 1 1 (0 ∷ []) 0 ≡ refused 10 (lent 0 ∷ [])

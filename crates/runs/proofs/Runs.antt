@@ -15,7 +15,7 @@ use Rattle.format.specs.Bits.{bit_at, number_at}
 use Rattle.format.specs.Layout.{level_size, levels_in}
 use Rattle.format.specs.WritingRunLength.{runs_from, runs_of}
 use Rattle.format.specs.declared.LevelRun.{LevelRun}
-use Rattle.laws.specs.Lists.{length-listed, any_none}
+use Rattle.laws.specs.Lists.{length-listed}
 use Rattle.laws.specs.Stores.{field_at}
 use Rattle.laws.specs.Bits.{Octets, gathered, gathered-bits, bit-lt, number_lt, number-add}
 use Rattle.runs.specs.Runs.{starts_with, Stands, four_times, Begins}
@@ -55,28 +55,14 @@ any-replicate f level (suc (suc n)) behind l = ap (λ (t : Bool). f level || t) 
     again true t = refl
     again false t = refl
 
-repeated-first : (level n : ℕ) (behind : List ℕ) → 0 < n → get_or (replicate n level ++ behind) 0 0 ≡ level
-repeated-first level zero behind l = absurd (omega arith)
-repeated-first level (suc n) behind l = refl
+-- those from a place on are the run there, and those behind it
+pub begins-runs : {levels : List ℕ} {place : ℕ} {run : LevelRun} → Begins levels place run → runs_of (drop place levels) ≡ run ∷ runs_of (drop (place + run.length) levels)
+begins-runs {run = run} b = ap runs_of b.here ∙ runs-first run.level run.length _ b.some b.longest
 
-module _ {levels : List ℕ} {place : ℕ} {run : LevelRun} (b : Begins levels place run) where
-  abbrev behind : List ℕ
-  behind = drop (place + run.length) levels
-
-  pub begins-runs : runs_of (drop place levels) ≡ run ∷ runs_of behind
-  begins-runs = ap runs_of b.here ∙ runs-first run.level run.length behind b.some b.longest
-
-  pub begins-any : (f : ℕ → Bool) → any_of f (drop place levels) ≡ (f run.level || any_of f behind)
-  begins-any f = ap (any_of f) b.here ∙ any-replicate f run.level run.length behind b.some
-
-  -- its level is the one at the place
-  begins-level : run.level ≡ get_or levels place 0
-  begins-level =
-      sym (repeated-first run.level run.length behind b.some)
-      ∙ ap (λ (l : List ℕ). get_or l 0 0) (sym b.here ∙ drop-cons levels place 0 (omega (arith, b.some, b.within)))
-
-  pub begins-low : (M : ℕ) → any_of (ltb M) levels ≡ false → run.level ≤ M
-  begins-low M h = ltb-false M run.level (rw begins-level (any_none (ltb M) levels 0 h place (omega (arith, b.some, b.within))))
+-- and behind the last level there are none
+pub runs-none : (levels : List ℕ) (place : ℕ) → length levels ≤ place → runs_of (drop place levels) ≡ []
+unfolding runs_of
+runs-none levels place l = rw (drop_of_length-le levels {i = place} l)
 
 -- ---- finding it
 

@@ -11,7 +11,7 @@ use Rattle.format.specs.Lists.{any_of}
 use Rattle.format.specs.WritingRunLength.{digits_up_to, digits_of}
 use Rattle.laws.specs.Lists.{either_left, either-right}
 use Rattle.runs.specs.Claims.{value_of, zero_at_top, Digits, DigitsAreThese}
-use Rattle.runs.proofs.Digits.{digit-less}
+use Rattle.runs.proofs.DigitsOf.{digit-less}
 
 module _ (base : ℕ) (some : 2 ≤ base) where
   -- ---- those that are written

@@ -11,10 +11,9 @@ use Rattle.format.specs.RunLength.{run_length}
 use Rattle.format.specs.WritingRunLength.{runs_of, digits_of, level_payload, write_run_length}
 use Rattle.format.specs.declared.LevelRun.{LevelRun}
 use Rattle.format.specs.declared.OctetPlace.{OctetPlace}
-use Rattle.format.specs.declared.Stored.TheVariants as stored
-use Rattle.format.specs.declared.Unrolled.TheVariants as unrolled
 use Rattle.run_length.specs.Runs.{Coding}
 use Rattle.runs.specs.Runs.{starts_with}
+use Rattle.std.specs.declared.result.Result.TheVariants.{Ok, Err}
 
 -- b and M that 5 lets pass, and levels that 13 lets pass
 pub record Writable (b M : ℕ) (levels : List ℕ) : Type 0 where
@@ -28,20 +27,20 @@ pub record Writable (b M : ℕ) (levels : List ℕ) : Type 0 where
 abbrev pub LevelsBack : Type 0
 LevelsBack =
     (b M : ℕ) (levels : List ℕ) → Writable b M levels → (lent : List ℕ) → run_length b M (length levels) (level_payload b M levels) lent
-    ≡ first (λ r. left (unrolled.Refused r) lent) (room_refusals level_size lent (length levels))
-    (left (unrolled.Levels (length levels)) (flat_map level_octets levels over lent))
+    ≡ first (λ r. left (Err r) lent) (room_refusals level_size lent (length levels))
+    (left (Ok (length levels)) (flat_map level_octets levels over lent))
 
 -- what is accepted is such a list, and its payload is what stands in the octets that are answered
 abbrev pub AcceptedIsWritten : Type 0
 AcceptedIsWritten =
-    (b M : ℕ) (levels lent : List ℕ) (octets : OctetPlace) (payload : List ℕ) → write_run_length b M levels lent ≡ left (stored.Span octets) payload
+    (b M : ℕ) (levels lent : List ℕ) (octets : OctetPlace) (payload : List ℕ) → write_run_length b M levels lent ≡ left (Ok octets) payload
     → Writable b M levels × (take octets.0 payload ≡ level_payload b M levels)
 
 -- and every such list is accepted where its payload has room
 abbrev pub WritableIsAccepted : Type 0
 WritableIsAccepted =
     (b M : ℕ) (levels lent : List ℕ) → Writable b M levels → length (level_payload b M levels) ≤ length lent
-    → write_run_length b M levels lent ≡ left (stored.Span (record { 0 = length (level_payload b M levels) })) (level_payload b M levels over lent)
+    → write_run_length b M levels lent ≡ left (Ok (record { 0 = length (level_payload b M levels) })) (level_payload b M levels over lent)
 
 -- as it always has in so many octets: there are no more codes than levels
 abbrev pub AlwaysEnough : Type 0

@@ -2,26 +2,18 @@
 #![tactic(auto)]
 
 ghost use Rattle.std.specs.Prelude.{◌≡◌, true, false, ◌∷◌, [], ◌+◌, ◌*◌, ◌<◌, ◌≤◌, ◌^◌, ltb, length, get_or, replicate, drop};
+ghost use Rattle.std.specs.Iterator.{YieldsFirst, item_count};
 ghost use Rattle.format.specs.Lists.{any_of};
 ghost use Rattle.format.specs.Bits.{string_of};
 ghost use Rattle.format.specs.Layout.{levels_in};
 ghost use Rattle.format.specs.Refusals.{limit, left};
-ghost use Rattle.format.specs.RunLength.{code_refusals};
-ghost use Rattle.format.specs.WritingRunLength.{digits_of, run_codes, level_codes, level_payload, write_run_length};
-ghost use Rattle.laws.specs.First.{Clear};
-ghost use Rattle.writer.specs.Pen.{Ready, Moved, payload_lent};
-ghost use Rattle.runs.specs.Runs.{starts_with, Stands, Begins, Codable, digit_codes, counted};
+ghost use Rattle.format.specs.WritingRunLength.{runs_of, digits_of, run_codes, level_codes, level_payload, write_run_length};
+ghost use Rattle.writer.specs.Pen.{fresh, Ready, Moved, payload_lent};
+ghost use Rattle.runs.specs.Runs.{starts_with, Stands, Begins, runs_left, digit_codes, counted};
 
-use format::{BitPlace, LevelRun, OctetPlace, Refusal, Stored};
+use format::{BitPlace, LEVEL_SIZE, LIMIT, LevelRun, OctetPlace, Refusal};
+use run_length::LevelCoding;
 use writer::Pen;
-
-// How levels are coded: in so many bits, up to a greatest level, and with repeat codes for the digits of a base.
-#[derive(Clone, Copy)]
-pub struct LevelCoding {
-    pub bits: usize,
-    pub greatest: usize,
-    pub base: usize,
-}
 
 // 2^48 + 2^32 + 2^16 + 1: a number of sixteen bits, times this, stands four times in 64 bits.
 const FOUR_TIMES: u64 = 281474976710656 + 4294967296 + 65536 + 1;
@@ -30,7 +22,7 @@ const FOUR_TIMES: u64 = 281474976710656 + 4294967296 + 65536 + 1;
 fn count_of(levels: &[u8]) -> usize
     ensures { result ≡ length (levels_in levels.now) }
 {
-    levels.len() / format::LEVEL_SIZE
+    levels.len() / LEVEL_SIZE
 }
 
 // Level k of the list.
@@ -38,7 +30,7 @@ fn level_at(levels: &[u8], k: usize) -> usize
     requires { k < length (levels_in levels.now) }
     ensures { (result ≡ get_or (levels_in levels.now) k 0) × (result < 2 ^ 16) }
 {
-    layout::level_in(levels, k) as usize
+    layout::whole_in::<LEVEL_SIZE>(levels, k) as usize
 }
 
 // Whether the eight octets from a place on are those of a level four times. Then it stands at the next four places; where they
@@ -50,7 +42,7 @@ fn four_stand(levels: &[u8], place: usize, level: usize) -> bool
     if count_of(levels) < place + 4 {
         return false;
     }
-    let octets = stream::eight_there(levels, OctetPlace(place * format::LEVEL_SIZE));
+    let octets = stream::gathered_there::<8>(levels, OctetPlace(place * LEVEL_SIZE));
     octets == (level as u64) * FOUR_TIMES
 }
 
@@ -70,10 +62,7 @@ fn fours_from(levels: &[u8], place: usize, level: usize) -> usize
 fn goes_on(levels: &[u8], place: usize, level: usize) -> bool
     ensures { result ≡ starts_with level (drop place (levels_in levels.now)) }
 {
-    if count_of(levels) <= place {
-        return false;
-    }
-    level_at(levels, place) == level
+    place < count_of(levels) && level_at(levels, place) == level
 }
 
 // The longest run that begins at a place.
@@ -92,119 +81,154 @@ fn run_at(levels: &[u8], place: usize) -> LevelRun
     }
 }
 
-// How many digits of the base a number has. One digit takes no division.
-fn digit_count(coding: LevelCoding, number: usize) -> usize
-    requires { 2 ≤ coding.base }
-    ensures { (result ≡ length (digits_of coding.base number)) × (result ≤ number) }
-{
-    let mut rest = number;
-    let mut count = 0usize;
-    while coding.base <= rest {
-        rest /= coding.base;
-        count += 1;
-    }
-    if rest == 0 {
-        return count;
-    }
-    count + 1
+// The runs of some levels, each as long as it can be: those from a place on are left.
+#[derive(Clone, Copy)]
+struct LevelRuns<'a> {
+    levels: &'a [u8],
+    place: usize,
 }
 
-// How many codes a run takes: no more than it has levels.
+impl<'a> LevelRuns<'a> {
+    fn of(levels: &'a [u8]) -> LevelRuns<'a>
+        ensures { runs_left result ≡ runs_of (levels_in levels.now) }
+    {
+        LevelRuns { levels, place: 0 }
+    }
+}
+
+impl Iterator for LevelRuns<'_> {
+    type Item = LevelRun;
+
+    ghost next_gives = { YieldsFirst runs_left };
+
+    ghost remaining = { item_count runs_left };
+
+    fn next(&mut self) -> Option<LevelRun> {
+        if count_of(self.levels) <= self.place {
+            return None;
+        }
+        let run = run_at(self.levels, self.place);
+        self.place += run.length;
+        Some(run)
+    }
+}
+
+// The digits of a number in a base, least first, no leading zero digit at the top.
+#[derive(Clone, Copy)]
+struct Digits {
+    base: usize,
+    rest: usize,
+    ghost some: { 2 ≤ base },
+}
+
+impl Iterator for Digits {
+    type Item = usize;
+
+    ghost next_gives = { YieldsFirst (λ d. digits_of d.base d.rest) };
+
+    ghost remaining = { item_count (λ d. digits_of d.base d.rest) };
+
+    // One digit takes no division.
+    fn next(&mut self) -> Option<usize> {
+        if self.rest == 0 {
+            return None;
+        }
+        let rest = self.rest;
+        if rest < self.base {
+            self.rest = 0;
+            return Some(rest);
+        }
+        self.rest = rest / self.base;
+        Some(rest % self.base)
+    }
+}
+
+// How many codes a run takes.
 fn code_count(coding: LevelCoding, run: LevelRun) -> usize
     requires { 0 < run.length }
-    ensures { (result ≡ length (run_codes coding.greatest coding.base run)) × (result ≤ run.length) }
+    ensures { result ≡ length (run_codes coding.greatest coding.base run) }
 {
     if coding.base < 2 {
         return run.length;
     }
-    1 + digit_count(coding, run.length - 1)
+    let digits = Digits {
+        base: coding.base,
+        rest: run.length - 1,
+    };
+    1 + digits.count()
 }
 
 // How many octets the levels take, or 13 for "a level above M".
-fn octets_of(coding: LevelCoding, levels: &[u8]) -> Stored
-    requires { Codable coding × (length (levels_in levels.now) ≤ limit) }
+fn octets_of(coding: LevelCoding, levels: &[u8]) -> Result<OctetPlace, Refusal>
+    requires { length (levels_in levels.now) ≤ limit }
     ensures { result ≡ counted coding.bits coding.greatest (levels_in levels.now) }
 {
     let mut codes = 0usize;
-    let mut place = 0usize;
-    while place < count_of(levels) {
-        let run = run_at(levels, place);
+    for run in LevelRuns::of(levels) {
         if coding.greatest < run.level {
-            return Stored::Refused(Refusal::Numbers);
+            return Err(Refusal::Numbers);
         }
         codes += code_count(coding, run);
-        place += run.length;
     }
-    Stored::Span(places::span(BitPlace(0), coding.bits, codes))
+    Ok(places::span(BitPlace(0), coding.bits, codes))
 }
 
 // Digit d is code M + 1 + d.
 fn put_digit(coding: LevelCoding, digit: usize, pen: Pen, payload: &mut [u8]) -> Pen
-    requires { Codable coding × (digit < coding.base) × Ready pen coding.bits payload.old }
+    requires { (digit < coding.base) × Ready pen coding.bits payload.old }
     ensures { Moved pen (string_of coding.bits ((coding.greatest + 1 + digit) ∷ [])) payload.old payload.new result }
 {
-    writer::put(
-        pen,
-        (coding.greatest + 1 + digit) as u64,
-        coding.bits,
-        payload,
-    )
+    pen.put((coding.greatest + 1 + digit) as u64, coding.bits, payload)
 }
 
 // "in digits of the base, least first, no leading zero digit at the top"
 fn put_digits(coding: LevelCoding, number: usize, pen: Pen, payload: &mut [u8]) -> Pen
-    requires { Codable coding × (2 ≤ coding.base) × Ready pen (length (digit_codes coding number) * coding.bits) payload.old }
+    requires { (2 ≤ coding.base) × Ready pen (length (digit_codes coding number) * coding.bits) payload.old }
     ensures { Moved pen (string_of coding.bits (digit_codes coding number)) payload.old payload.new result }
 {
+    let digits = Digits {
+        base: coding.base,
+        rest: number,
+    };
     let mut here = pen;
-    let mut rest = number;
-    while coding.base <= rest {
-        here = put_digit(coding, rest % coding.base, here, payload);
-        rest /= coding.base;
+    for digit in digits {
+        here = put_digit(coding, digit, here, payload);
     }
-    if rest == 0 {
-        return here;
-    }
-    put_digit(coding, rest, here, payload)
+    here
 }
 
 // "a run repeats its level instead"
 fn put_repeated(coding: LevelCoding, run: LevelRun, pen: Pen, payload: &mut [u8]) -> Pen
-    requires { Codable coding × (run.level ≤ coding.greatest) × Ready pen (length (replicate run.length run.level) * coding.bits) payload.old }
+    requires { (run.level ≤ coding.greatest) × Ready pen (length (replicate run.length run.level) * coding.bits) payload.old }
     ensures { Moved pen (string_of coding.bits (replicate run.length run.level)) payload.old payload.new result }
 {
     let mut here = pen;
-    let mut k = 0usize;
-    while k < run.length {
-        here = writer::put(here, run.level as u64, coding.bits, payload);
-        k += 1;
+    for _ in 0..run.length {
+        here = here.put(run.level as u64, coding.bits, payload);
     }
     here
 }
 
 // The codes of a run.
 fn put_run(coding: LevelCoding, run: LevelRun, pen: Pen, payload: &mut [u8]) -> Pen
-    requires { Codable coding × (run.level ≤ coding.greatest) × (0 < run.length) × Ready pen (length (run_codes coding.greatest coding.base run) * coding.bits) payload.old }
+    requires { (run.level ≤ coding.greatest) × (0 < run.length) × Ready pen (length (run_codes coding.greatest coding.base run) * coding.bits) payload.old }
     ensures { Moved pen (string_of coding.bits (run_codes coding.greatest coding.base run)) payload.old payload.new result }
 {
     if coding.base < 2 {
         return put_repeated(coding, run, pen, payload);
     }
-    let behind = writer::put(pen, run.level as u64, coding.bits, payload);
+    let behind = pen.put(run.level as u64, coding.bits, payload);
     put_digits(coding, run.length - 1, behind, payload)
 }
 
 // The codes of all runs.
 fn put_levels(coding: LevelCoding, levels: &[u8], payload: &mut [u8]) -> Pen
-    requires { Codable coding × (any_of (ltb coding.greatest) (levels_in levels.now) ≡ false) × (length (level_payload coding.bits coding.greatest (levels_in levels.now)) ≤ length payload.old) }
-    ensures { Moved (record { place = record { 0 = 0 }; number = 0; pending = 0 }) (string_of coding.bits (level_codes coding.bits coding.greatest (levels_in levels.now))) payload.old payload.new result }
+    requires { (any_of (ltb coding.greatest) (levels_in levels.now) ≡ false) × (length (level_payload coding.bits coding.greatest (levels_in levels.now)) ≤ length payload.old) }
+    ensures { Moved (fresh (record { 0 = 0 })) (string_of coding.bits (level_codes coding.bits coding.greatest (levels_in levels.now))) payload.old payload.new result }
 {
-    let mut here = writer::pen_at(OctetPlace(0));
-    let mut place = 0usize;
-    while place < count_of(levels) {
-        let run = run_at(levels, place);
+    let mut here = Pen::at(OctetPlace(0));
+    for run in LevelRuns::of(levels) {
         here = put_run(coding, run, here, payload);
-        place += run.length;
     }
     here
 }
@@ -215,44 +239,30 @@ fn write_levels(
     levels: &[u8],
     octets: OctetPlace,
     payload: &mut [u8],
-) -> Stored
-    requires { Codable coding × (any_of (ltb coding.greatest) (levels_in levels.now) ≡ false) × (octets.0 ≡ length (level_payload coding.bits coding.greatest (levels_in levels.now))) }
+) -> Result<OctetPlace, Refusal>
+    requires { (any_of (ltb coding.greatest) (levels_in levels.now) ≡ false) × (octets.0 ≡ length (level_payload coding.bits coding.greatest (levels_in levels.now))) }
     ensures { left result payload.new ≡ payload_lent (level_payload coding.bits coding.greatest (levels_in levels.now)) payload.old }
 {
     if payload.len() < octets.0 {
-        return Stored::Refused(Refusal::Room);
+        return Err(Refusal::Room);
     }
-    writer::finish(put_levels(coding, levels, payload), payload);
-    Stored::Span(octets)
-}
-
-// How b and M that 5 lets pass code levels.
-fn coding_of(bits: u8, greatest: u16) -> LevelCoding
-    requires { Clear (code_refusals bits greatest) }
-    ensures { (result.bits ≡ bits) × (result.greatest ≡ greatest) × Codable result }
-{
-    let b = bits as usize;
-    let top = greatest as usize;
-    LevelCoding {
-        bits: b,
-        greatest: top,
-        base: run_length::greatest_code(b) - top,
-    }
+    put_levels(coding, levels, payload).finish(payload);
+    Ok(octets)
 }
 
 // Levels, two octets each, as the payload of a run-length map, in lent octets.
-pub fn write_run_length(bits: u8, greatest: u16, levels: &[u8], payload: &mut [u8]) -> Stored
+pub fn write_run_length(
+    bits: u8,
+    greatest: u16,
+    levels: &[u8],
+    payload: &mut [u8],
+) -> Result<OctetPlace, Refusal>
     ensures { left result payload.new ≡ write_run_length bits greatest (levels_in levels.now) payload.old }
 {
-    if run_length::is_uncoded(bits, greatest) {
-        return Stored::Refused(Refusal::Width);
+    let coding = LevelCoding::new(bits, greatest)?;
+    if (LIMIT as usize) < count_of(levels) {
+        return Err(Refusal::Numbers);
     }
-    if places::size(format::LIMIT) < count_of(levels) {
-        return Stored::Refused(Refusal::Numbers);
-    }
-    let coding = coding_of(bits, greatest);
-    match octets_of(coding, levels) {
-        Stored::Refused(refusal) => Stored::Refused(refusal),
-        Stored::Span(octets) => write_levels(coding, levels, octets, payload),
-    }
+    let octets = octets_of(coding, levels)?;
+    write_levels(coding, levels, octets, payload)
 }

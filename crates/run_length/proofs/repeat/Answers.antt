@@ -1,21 +1,12 @@
--- `run_length::repeat` meets its contract. Assumes nothing.
-use Rattle.run_length.proofs.Passes.{repeating-start, repeating-more, repeating-end, repeating-none}
+-- `run_length::repeat` meets its contract: nothing is stored where there is no room. Assumes nothing.
+use Prim.Native.Nat.{◌-◌, min}
+use mathlib.Core.Path.{◌≡◌}
+use mathlib.Core.List.{flat_map}
+use native.Mathlib.Omega.{arith}
+use Rattle.format.specs.Lists.{whole_ones}
+use Rattle.format.specs.Layout.{level_size}
 use Rattle.run_length.proofs.repeat.Goals as goal
 
-pub returns-then-room-from : goal.returns-then-room-from
-returns-then-room-from c = search repeating-none
-
-pub smaller-end-requires : goal.smaller-end-requires
-smaller-end-requires c = tt
-
-pub loop-k-init : goal.loop-k-init
-loop-k-init c = repeating-start _ _ _ _
-
-pub loop-k-preserved : goal.loop-k-preserved
-loop-k-preserved c = search repeating-more
-
-pub shape_of-levels : goal.shape_of-levels
-shape_of-levels c = c.loop-k.invariant.long
-
-pub returns : goal.returns
-returns c = search repeating-end
+pub returns-else-from-end : goal.returns-else-from-end
+unfolding flat_map
+returns-else-from-end c = let e : min c.args.to (whole_ones level_size c.args.levels.now) - c.args.from ≡ 0 = omega arith in rw e

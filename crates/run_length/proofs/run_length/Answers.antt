@@ -1,42 +1,31 @@
 -- `run_length::run_length` meets its contract. Assumes nothing.
 use mathlib.Core.Path.{refl}
-use Rattle.format.specs.RunLength.{run_length_up_to}
+use Rattle.std.proofs.lemmas.Result.{err_from_is_err_and}
 use Rattle.format.specs.declared.Refusal.TheVariants.{Repeat, Points, Room}
-use Rattle.run_length.proofs.Codes.{coding-clear}
-use Rattle.run_length.proofs.Passes.{refused-code, refused-behind, stored-behind, unrolling-none, unrolling-all}
-use Rattle.laws.specs.First.{decides, tests, flag_same}
+use Rattle.run_length.proofs.Passes.{refused-code, refused-behind, stored-behind, unrolling-all}
+use Rattle.laws.specs.First.{tests, flag_same}
 use native.Mathlib.Omega.{arith}
 use Rattle.run_length.proofs.run_length.Goals as goal
 
-pub is_uncoded-requires : goal.is_uncoded-requires
-is_uncoded-requires c = tt
-
-pub returns-then-is_uncoded : goal.returns-then-is_uncoded
-returns-then-is_uncoded c = refused-code _ _ _ _ _ (c.is_uncoded.ensures.0 c.if-is_uncoded.true)
-
-pub repeats_first-requires : goal.repeats_first-requires
-repeats_first-requires c = coding-clear (c.is_uncoded.ensures.1 c.if-is_uncoded.false)
+pub returns-in_err-coding : goal.returns-in_err-coding
+returns-in_err-coding c =
+    let p = err_from_is_err_and c.from_residual.result c.from_residual.ensures.1 in
+    rw (p.1, p.2) (refused-code _ _ _ _ _ _ c.in_err-coding.ensures)
 
 pub returns-then-repeats_first : goal.returns-then-repeats_first
-unfolding run_length_up_to
-returns-then-repeats_first c = decides _ Repeat _ _ (omega (arith, tests, flag_same, c.is_uncoded.ensures.1 c.if-is_uncoded.false))
+returns-then-repeats_first c = let k = c.in_ok-coding.ensures in rw (← k.1, ← k.2) (refused-behind _ _ _ _ _ Repeat (omega (arith, tests, flag_same)))
 
 pub returns-then-declared-gt-LIMIT : goal.returns-then-declared-gt-LIMIT
-returns-then-declared-gt-LIMIT c = refused-behind _ _ _ _ _ Points refl (omega (arith, tests, flag_same, c.is_uncoded.ensures.1 c.if-is_uncoded.false))
-
-pub unroll-requires : goal.unroll-requires
-unroll-requires c = (coding-clear (c.is_uncoded.ensures.1 c.if-is_uncoded.false), omega arith, omega arith, omega arith)
+returns-then-declared-gt-LIMIT c = let k = c.in_ok-coding.ensures in rw (← k.1, ← k.2) (refused-behind _ _ _ _ _ Points (omega (arith, tests, flag_same)))
 
 pub returns-then-unroll-count : goal.returns-then-unroll-count
-returns-then-unroll-count c = refused-behind _ _ _ _ _ Points (search unrolling-none) (omega (arith, tests, flag_same, c.is_uncoded.ensures.1 c.if-is_uncoded.false))
+returns-then-unroll-count c = let k = c.in_ok-coding.ensures in rw (← k.1, ← k.2) (refused-behind _ _ _ _ _ Points (omega (arith, tests, flag_same)))
 
 pub returns-then-levels-count : goal.returns-then-levels-count
-returns-then-levels-count c = refused-behind _ _ _ _ _ Room (search unrolling-none) (omega (arith, tests, flag_same, c.is_uncoded.ensures.1 c.if-is_uncoded.false))
-
-pub unroll-requires-2 : goal.unroll-requires-2
-unroll-requires-2 c = (coding-clear (c.is_uncoded.ensures.1 c.if-is_uncoded.false), omega arith, omega arith, omega arith)
+returns-then-levels-count c = let k = c.in_ok-coding.ensures in rw (← k.1, ← k.2) (refused-behind _ _ _ _ _ Room (omega (arith, tests, flag_same)))
 
 pub returns : goal.returns
 returns c =
-    let decided = c.unroll.ensures in
-    stored-behind _ _ _ _ _ (unrolling-all _ decided (omega arith) (omega arith) c.unroll-2.ensures) (omega (arith, tests, flag_same, c.is_uncoded.ensures.1 c.if-is_uncoded.false))
+    let k = c.in_ok-coding.ensures in
+    rw (← k.1, ← k.2)
+    (stored-behind _ _ _ _ _ (unrolling-all c.unroll.ensures c.if-unroll-count.false c.if-declared-gt-LIMIT.false _ c.if-levels-count.false refl c.unroll-2.ensures) (omega (arith, tests, flag_same)))

@@ -27,8 +27,8 @@ returns-then-count_of-place c = λ e. absurd (false≢true e)
 pub overflow_mul-place : goal.overflow_mul-place
 overflow_mul-place c = omega (arith, long c.args.levels.now c.count_of.ensures)
 
-pub eight_there-octets-requires : goal.eight_there-octets-requires
-eight_there-octets-requires c = omega (arith, long c.args.levels.now c.count_of.ensures)
+pub gathered_there-octets-requires : goal.gathered_there-octets-requires
+gathered_there-octets-requires c = (omega arith, omega (arith, long c.args.levels.now c.count_of.ensures))
 
 pub returns : goal.returns
-returns c = λ e. stands-four _ (λ k. omega (arith, c.type_inv.levels k)) _ _ (omega arith) (omega (arith, c.count_of.ensures)) c.eight_there-octets.ensures (eqb-true _ _ e)
+returns c = λ e. stands-four _ (λ k. omega (arith, c.type_inv.levels k)) _ _ (omega arith) (omega (arith, c.count_of.ensures)) c.gathered_there-octets.ensures (eqb-true _ _ e)

@@ -1,10 +1,7 @@
--- What the loop of `runs::put_digits` keeps, and why it ends. Assumes nothing.
-use Rattle.runs.specs.Runs.{digit_codes}
-use Rattle.runs.proofs.Putting.{CodesPut}
+-- What the loop of `runs::put_digits` keeps. Assumes nothing.
+use Rattle.format.specs.WritingRunLength.{digits_of}
+use Rattle.runs.proofs.Putting.{DigitsPut}
 use Rattle.runs.proofs.put_digits.Given as goal
 
-abbrev pub invariant-loop-rest : goal.invariant-loop-rest
-invariant-loop-rest l = CodesPut l.coding.bits (digit_codes l.coding l.number) (digit_codes l.coding l.rest) l.initial.here l.initial.payload l.payload l.here
-
-abbrev pub decreases-loop-rest : goal.decreases-loop-rest
-decreases-loop-rest l = l.rest
+abbrev pub invariant-loop-digit : goal.invariant-loop-digit
+invariant-loop-digit l = DigitsPut l.coding l.number (digits_of l.digit-iterator.base l.digit-iterator.rest) l.initial.here l.initial.payload l.payload l.here

@@ -1,35 +1,20 @@
 -- `runs::put_levels` meets its contract. Assumes nothing.
-use native.Mathlib.Omega.{arith}
-use Rattle.format.specs.Layout.{levels_in}
-use Rattle.laws.specs.Lists.{length-listed}
-use Rattle.runs.proofs.Runs.{begins-low}
-use Rattle.runs.proofs.Putting.{levels-start, run-ready, run_more, levels-moved}
-use borrow.Author.Rules.{rules}
+use mathlib.Core.Path.{ap, ◌∙◌}
+use Rattle.runs.specs.Runs.{runs_left}
+use Rattle.runs.proofs.Putting.{runs-start, run-low, run-ready, run_more, runs-moved}
 use Rattle.runs.proofs.put_levels.Goals as goal
 
-pub pen_at-here-requires : goal.pen_at-here-requires
-pen_at-here-requires c = tt
-
-pub loop-place-init : goal.loop-place-init
-loop-place-init c = levels-start c.args.coding (levels_in c.args.levels.now) c.pen_at-here.ensures c.requires.2 c.requires.0
-
-pub count_of-requires : goal.count_of-requires
-count_of-requires c = tt
-
-pub run_at-run-requires : goal.run_at-run-requires
-run_at-run-requires c = omega (arith, c.count_of.ensures)
+pub loop-run-init : goal.loop-run-init
+loop-run-init c = runs-start _ _ c.at-here.ensures c.requires.1 c.requires.0 (ap runs_left c.into_iter-run-iterator.ensures.into_iter_gives ∙ c.of-run-items.ensures)
 
 pub put_run-here-requires : goal.put_run-here-requires
-put_run-here-requires c = let b = c.run_at-run.ensures in (c.requires.0, begins-low b _ c.requires.1, b.some, run-ready c.args.coding (levels_in c.args.levels.now) c.pen_at-here.ensures c.requires.2 c.loop-place.invariant b)
+put_run-here-requires c =
+    let e = c.in-Some.ensures.steps in
+    let low = run-low _ _ c.at-here.ensures c.requires.1 c.loop-run.invariant e in
+    (low.0, low.1, run-ready _ _ c.at-here.ensures c.requires.1 c.loop-run.invariant e)
 
-pub overflow_add-place : goal.overflow_add-place
-overflow_add-place c = let l = rw length-listed at c.run_at-run.ensures.within in search rules
-
-pub loop-place-smaller : goal.loop-place-smaller
-loop-place-smaller c = omega (arith, c.run_at-run.ensures.within, c.run_at-run.ensures.some)
-
-pub loop-place-preserved : goal.loop-place-preserved
-loop-place-preserved c = run_more c.args.coding (levels_in c.args.levels.now) c.pen_at-here.ensures c.requires.2 c.loop-place.invariant c.run_at-run.ensures c.put_run-here.ensures
+pub loop-run-preserved : goal.loop-run-preserved
+loop-run-preserved c = run_more _ _ c.at-here.ensures c.requires.1 c.loop-run.invariant c.in-Some.ensures.steps c.put_run-here.ensures
 
 pub returns : goal.returns
-returns c = levels-moved c.args.coding (levels_in c.args.levels.now) c.pen_at-here.ensures c.requires.2 c.loop-place.invariant (omega (arith, c.count_of.ensures))
+returns c = runs-moved _ _ c.at-here.ensures c.requires.1 c.loop-run.invariant c.in-None.ensures.steps.0

@@ -1,12 +1,8 @@
--- What the loop of `runs::put_levels` keeps, and why it ends. Assumes nothing.
-use Prim.Native.Nat.{◌-◌}
-use lib.ListN.{length}
+-- What the loop of `runs::put_levels` keeps. Assumes nothing.
 use Rattle.format.specs.Layout.{levels_in}
-use Rattle.runs.proofs.Putting.{LevelsPut}
+use Rattle.runs.specs.Runs.{runs_left}
+use Rattle.runs.proofs.Putting.{RunsPut}
 use Rattle.runs.proofs.put_levels.Given as goal
 
-abbrev pub invariant-loop-place : goal.invariant-loop-place
-invariant-loop-place l = LevelsPut l.coding (levels_in l.levels) l.place l.initial.here l.initial.payload l.payload l.here
-
-abbrev pub decreases-loop-place : goal.decreases-loop-place
-decreases-loop-place l = length (levels_in l.levels) - l.place
+abbrev pub invariant-loop-run : goal.invariant-loop-run
+invariant-loop-run l = RunsPut l.coding (levels_in l.levels) (runs_left l.run-iterator) l.initial.here l.initial.payload l.payload l.here

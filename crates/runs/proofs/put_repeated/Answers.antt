@@ -4,14 +4,14 @@ use Rattle.runs.proofs.Codes.{level-fits}
 use Rattle.runs.proofs.Putting.{repeated-start, repeated-end, repeated-ready, repeated-more}
 use Rattle.runs.proofs.put_repeated.Goals as goal
 
-pub loop-k-init : goal.loop-k-init
-loop-k-init c = repeated-start c.args.run.level c.args.run.length c.requires.2
+pub loop-init : goal.loop-init
+loop-init c = repeated-start _ _ _ _ _
 
 pub put-here-requires : goal.put-here-requires
-put-here-requires c = record { ready = repeated-ready _ _ c.loop-k.invariant c.loop-k-test.true c.requires.2; width_bound = (omega (arith, c.requires.0.coding.few), level-fits c.requires.0 c.requires.1) }
+put-here-requires c = record { ready = repeated-ready _ _ c.loop.invariant c.loop-test.true c.requires.1; width_bound = (omega (arith, c.args.coding.accepted.few), level-fits c.args.coding c.requires.0) }
 
-pub loop-k-preserved : goal.loop-k-preserved
-loop-k-preserved c = repeated-more _ _ c.loop-k.invariant c.loop-k-test.true c.put-here.ensures
+pub loop-preserved : goal.loop-preserved
+loop-preserved c = repeated-more _ _ c.loop.invariant c.loop-test.true c.put-here.ensures
 
 pub returns : goal.returns
-returns c = repeated-end _ _ c.loop-k.invariant c.loop-k-test.false
+returns c = repeated-end _ _ c.loop.invariant c.loop-test.false

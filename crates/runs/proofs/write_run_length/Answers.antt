@@ -1,36 +1,30 @@
 -- `runs::write_run_length` meets its contract. Assumes nothing.
 use native.Mathlib.Omega.{arith}
+use Rattle.std.proofs.lemmas.Result.{err_from_is_err_and}
 use Rattle.runs.proofs.Answer.{refused-code, refused-many, refused-above, span-counted, left-to-room}
 use Rattle.runs.proofs.write_run_length.Goals as goal
 
-pub is_uncoded-requires : goal.is_uncoded-requires
-is_uncoded-requires c = tt
+pub returns-in_err-coding : goal.returns-in_err-coding
+returns-in_err-coding c =
+    let p = err_from_is_err_and c.from_residual.result c.from_residual.ensures.1 in
+    rw (p.1, p.2) (refused-code _ _ _ _ _ c.in_err-coding.ensures)
 
-pub returns-then-is_uncoded : goal.returns-then-is_uncoded
-returns-then-is_uncoded c = refused-code _ _ _ _ (c.is_uncoded.ensures.0 c.if-is_uncoded.true)
-
-pub size-requires : goal.size-requires
-size-requires c = tt
-
-pub count_of-requires : goal.count_of-requires
-count_of-requires c = tt
-
-pub returns-then-size-count_of : goal.returns-then-size-count_of
-returns-then-size-count_of c = refused-many _ _ _ _ (c.is_uncoded.ensures.1 c.if-is_uncoded.false) (omega (arith, c.count_of.ensures, c.size.ensures))
-
-pub coding_of-coding-requires : goal.coding_of-coding-requires
-coding_of-coding-requires c = c.is_uncoded.ensures.1 c.if-is_uncoded.false
+pub returns-then-count_of : goal.returns-then-count_of
+returns-then-count_of c = refused-many _ _ _ _ c.in_ok-coding.ensures.0 (omega (arith, c.count_of.ensures))
 
 pub octets_of-requires : goal.octets_of-requires
-octets_of-requires c = (c.coding_of-coding.ensures.2, omega (arith, c.count_of.ensures, c.size.ensures))
+octets_of-requires c = omega (arith, c.count_of.ensures)
+
+pub returns-in_err-octets : goal.returns-in_err-octets
+returns-in_err-octets c =
+    let p = err_from_is_err_and c.from_residual-in_err-octets.result c.from_residual-in_err-octets.ensures.1 in
+    let k = c.in_ok-coding.ensures in
+    rw (p.1, p.2) (refused-above _ _ _ _ k.0 (omega (arith, c.count_of.ensures)) k.1 k.2 c.octets_of.ensures c.in_err-octets.was)
 
 pub write_levels-requires : goal.write_levels-requires
-write_levels-requires c = let known = span-counted _ _ _ c.octets_of.ensures c.in-Span.is in (c.coding_of-coding.ensures.2, known.0, known.1)
+write_levels-requires c = span-counted _ _ _ c.octets_of.ensures c.in_ok-octets.was
 
-pub returns-in-Refused : goal.returns-in-Refused
-returns-in-Refused c =
-    refused-above _ _ _ _ (c.is_uncoded.ensures.1 c.if-is_uncoded.false) (omega (arith, c.count_of.ensures, c.size.ensures)) c.coding_of-coding.ensures.0 c.coding_of-coding.ensures.1 c.octets_of.ensures c.in-Refused.is
-
-pub returns-in-Span : goal.returns-in-Span
-returns-in-Span c =
-    left-to-room _ _ _ _ (c.is_uncoded.ensures.1 c.if-is_uncoded.false) (omega (arith, c.count_of.ensures, c.size.ensures)) c.coding_of-coding.ensures.0 c.coding_of-coding.ensures.1 c.octets_of.ensures c.in-Span.is c.write_levels.ensures
+pub returns : goal.returns
+returns c =
+    let k = c.in_ok-coding.ensures in
+    left-to-room _ _ _ _ k.0 (omega (arith, c.count_of.ensures)) k.1 k.2 c.octets_of.ensures c.in_ok-octets.was c.write_levels.ensures

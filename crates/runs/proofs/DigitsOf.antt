@@ -1,7 +1,7 @@
 -- The digits of a number in a base. Assumes nothing.
 use mathlib.Core.Path.{◌≡◌, refl, ap, ◌∙◌}
 use mathlib.Core.List.{List, [], ◌∷◌}
-use Prim.Native.Nat.{ℕ, zero, suc, ◌+◌, ◌/◌, ◌%◌, ◌≤◌, ◌<◌}
+use Prim.Native.Nat.{ℕ, zero, suc, ◌/◌, ◌%◌, ◌≤◌, ◌<◌}
 use native.Mathlib.Nat.{zero-lt-suc, div-lt_self, div-eq_of_lt, mod-eq_of_lt}
 use native.Mathlib.Omega.{arith}
 use lib.ListN.{length}
@@ -44,32 +44,9 @@ module _ (base : ℕ) (some : 2 ≤ base) where
   digits-few x = few-up-to x x
 
   -- one below the base is its own digit
-  pub digits_last : (x : ℕ) → 0 < x → x < base → digits_of base x ≡ x ∷ []
-  unfolding digits_of digits_up_to
+  pub digits_last : (x : ℕ) → 0 < x → x < base → digits_of base x ≡ x ∷ digits_of base 0
   digits_last x l m = digits-next x l ∙ rw (mod-eq_of_lt m, div-eq_of_lt m)
 
 pub digits-none : (base : ℕ) → digits_of base 0 ≡ []
 unfolding digits_of digits_up_to
 digits-none base = refl
-
--- ---- counting them: `count` are counted, and the others are those of the rest
-
-pub record DigitsCounted (base number rest count : ℕ) : Type 0 where
-  pub all : count + length (digits_of base rest) ≡ length (digits_of base number)
-  pub few : count + rest ≤ number
-
-pub counted_start : (base number : ℕ) → DigitsCounted base number number 0
-counted_start base number = record { all = omega arith; few = omega arith }
-
-module _ {base number rest count : ℕ} (some : 2 ≤ base) (i : DigitsCounted base number rest count) where
-  pub counted_next : base ≤ rest → DigitsCounted base number (rest / base) (count + 1)
-  counted_next l = record {
-    all = omega (arith, i.all, ap length (digits-next base some rest (omega arith)));
-    few = omega (arith, i.few, digit-less base some rest (omega arith));
-  }
-
-  pub counted_none : rest ≡ 0 → (count ≡ length (digits_of base number)) × (count ≤ number)
-  counted_none none = (omega (arith, i.all, ap (λ (x : ℕ). length (digits_of base x)) none, ap length (digits-none base)), omega (arith, i.few))
-
-  pub counted-last : (rest ≡ 0 → ⊥) → rest < base → (count + 1 ≡ length (digits_of base number)) × (count + 1 ≤ number)
-  counted-last h l = (omega (arith, i.all, ap length (digits_last base some rest (omega arith) l)), omega (arith, i.few))

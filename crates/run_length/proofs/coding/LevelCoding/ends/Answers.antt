@@ -1,7 +1,7 @@
--- `run_length::ends` meets its contract. Assumes nothing.
-use Rattle.run_length.proofs.Codes.{ends-not, ends-short, ends-padding, ends_on}
+-- `run_length::LevelCoding::ends` meets its contract. Assumes nothing.
+use Rattle.run_length.proofs.Codes.{ends-not, ends-short, ends-padding}
 use borrow.Author.Rules.{rules}
-use Rattle.run_length.proofs.ends.Goals as goal
+use Rattle.run_length.proofs.coding.LevelCoding.ends.Goals as goal
 
 pub returns-then-octet-payload : goal.returns-then-octet-payload
 returns-then-octet-payload c = search ends-not
@@ -11,6 +11,3 @@ returns-then-payload-octet c = search ends-short
 
 pub returns-then-reached : goal.returns-then-reached
 returns-then-reached c = search (ends-padding, rules)
-
-pub returns : goal.returns
-returns c = search (ends_on, rules)

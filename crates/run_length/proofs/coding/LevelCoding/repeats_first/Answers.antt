@@ -1,7 +1,7 @@
--- `run_length::repeats_first` meets its contract. Assumes nothing.
+-- `run_length::LevelCoding::repeats_first` meets its contract. Assumes nothing.
 use Rattle.run_length.proofs.Codes.{first-none, first-is}
 use borrow.Author.Rules.{rules}
-use Rattle.run_length.proofs.repeats_first.Goals as goal
+use Rattle.run_length.proofs.coding.LevelCoding.repeats_first.Goals as goal
 
 pub returns-then-ends : goal.returns-then-ends
 returns-then-ends c = search (first-none, rules)
