@@ -1,95 +1,95 @@
 -- What reading and naming answer, once the numbers of all rows are there. Assumes nothing.
-use mathlib.Core.Path.{◌≡◌, sym, ap}
-use mathlib.Core.Bool.{Bool, true, false}
-use mathlib.Core.List.{List, ◌++◌}
+use mathlib.Core.Path.{◌≡◌, refl, sym, ap, ◌∙◌}
+use mathlib.Core.Bool.{true, false}
+use mathlib.Core.List.{List}
 use Prim.Native.Nat.{ℕ, ◌/◌, ◌*◌, ◌≤◌, ◌<◌}
 use native.Mathlib.Omega.{arith}
-use borrow.Author.Tests.{lt-ltb, le-ltb, eq-eqb, ne_eqb}
+use borrow.Author.Tests.{lt-ltb, le-ltb}
+use lib.Dec.{ltb}
 use lib.ListN.{length, get_or, take}
 use lib.Seq.{length-take-le}
-use Rattle.format.specs.Lists.{listed, ◌over◌}
+use Rattle.std.specs.declared.result.Result.TheVariants.{Ok, Err}
+use Rattle.format.specs.Lists.{◌over◌}
 use Rattle.format.specs.Layout.{in_fours, number_size}
-use Rattle.format.specs.Refusals.{first, room_refusals, Left, left}
-use Rattle.format.specs.Section5.{table, rows_of, section_size, field_count, numbers_of, fields_in, fields_of, head_of, declared_of, template_of, differencing_of, named_of, at, wrong_head, head_refusals, read_section5, named_by}
+use Rattle.format.specs.Refusals.{first, left}
+use Rattle.format.specs.Section5.{table, section_size, numbers_of, fields_in, fields_of, head_of, declared_of, template_of, differencing_of, wrong_head, read_section5, named_by}
+use Rattle.format.specs.declared.Refusal.{Refusal}
 use Rattle.format.specs.declared.Refusal.TheVariants.{Room, Section5}
 use Rattle.format.specs.declared.Head.{Head}
 use Rattle.format.specs.declared.Template.{Template}
 use Rattle.format.specs.declared.Differencing.{Differencing}
-use Rattle.format.specs.declared.Fetched.{Fetched}
-use Rattle.format.specs.declared.Fetched.TheVariants as fetched
-use Rattle.format.specs.declared.Named.{Named}
 use Rattle.format.specs.declared.Named.TheVariants as named
 use Rattle.laws.specs.Lists.{take-map}
-use Rattle.section5.specs.Fields.{Counted, Numbers}
+use Rattle.section5.specs.Kind.{number, Counted, Headed}
+use Rattle.section5.specs.Read.{head_in, wrong, Read}
+use Rattle.section5.specs.declared.kind.Kind.{Kind}
+use Rattle.section5.specs.declared.kind.Kind.TheVariants.{Complex, Spatial}
+use Rattle.section5.specs.declared.fields.Fields.{Fields}
+use Rattle.section5.proofs.Rows.{fields-same, declared-is}
 
--- the fields of the numbers that Section 5 holds are those that it holds
-fields-same : {section5 numbers : List ℕ} → Numbers section5 numbers → fields_of table numbers ≡ fields_in table section5
-unfolding table listed
-fields-same n = rw n.are
+-- ---- reading
 
-declared-is : {section5 numbers : List ℕ} → Numbers section5 numbers → get_or numbers 2 0 ≡ declared_of (fields_in table section5)
-unfolding table listed at
-declared-is n = rw n.are
+module _ (section5 : List ℕ) {numbers : List ℕ} (en : numbers ≡ numbers_of (fields_in table section5)) {head : Head} (eh : head ≡ head_of (fields_of table numbers)) where
+  head-same : head ≡ head_in section5
+  head-same = eh ∙ ap head_of (fields-same section5 en)
 
--- as many of them as a template has rows
-module _ {section5 numbers : List ℕ} (n : Numbers section5 numbers) {template count : ℕ} (k : Counted template count) where
-  pub front_length : count ≡ length (take count numbers)
-  unfolding table
-  front_length = let long : length numbers ≡ 22 = ap length n.are in sym (length-take-le count numbers (omega (arith, k.few)))
+  pub refused-head : {refusal : Refusal} → Headed head (Err refusal) → (wrong section5 ≡ true) × (refusal ≡ Section5)
+  refused-head h = (rw head-same at (h.1 (length section5) (section_size head.template)), h.0)
 
-  pub front-room : (lent : List ℕ) → count ≤ length lent / number_size → length (take count numbers) * number_size ≤ length lent
-  front-room lent h = omega (arith, front_length)
+  module _ (kind : Kind) (h : Headed head (Ok kind)) {size : ℕ} (es : size ≡ section_size (number kind)) where
+    wrong-is : wrong section5 ≡ ltb (length section5) size
+    wrong-is =
+        ap (λ (x : Head). wrong_head (length section5) (section_size x.template) x) (sym head-same)
+        ∙ h.1 (length section5) (section_size head.template)
+        ∙ ap (λ (n : ℕ). ltb (length section5) (section_size n)) (sym h.0)
+        ∙ ap (ltb (length section5)) (sym es)
 
--- the two answers for a head
-abbrev pub named_with : List ℕ → Head → Named
-named_with section5 head = first named.Refused (head_refusals (length section5) (section_size head.template) head) (named_of (fields_in table section5))
+    pub refused-short : length section5 < size → (wrong section5 ≡ true) × ◌≡◌ {A = Refusal} Section5 Section5
+    refused-short l = (wrong-is ∙ lt-ltb (length section5) size l, refl)
 
-abbrev pub read_with : List ℕ → List ℕ → Head → Left Fetched
-read_with section5 lent head =
-    first (λ r. left (fetched.Refused r) lent)
-    (head_refusals (length section5) (section_size head.template) head ++ room_refusals number_size lent (field_count head.template))
-    (left fetched.Done (in_fours (numbers_of (fields_in (rows_of head.template) section5)) over lent))
+    pub read_right : size ≤ length section5 → (wrong section5 ≡ false) × (number kind ≡ (head_in section5).template) × (numbers ≡ numbers_of (fields_in table section5))
+    read_right l = (wrong-is ∙ le-ltb (length section5) size l, h.0 ∙ ap (λ (x : Head). x.template) head-same, en)
 
-module _ {section5 numbers : List ℕ} (n : Numbers section5 numbers) {head : Head} (eh : head ≡ head_of (fields_of table numbers)) {asks : ℕ} (ea : asks ≡ section_size head.template)
-    {wrong : Bool} (ew : wrong ≡ wrong_head (length section5) asks head) where
-  head-is : head ≡ head_of (fields_in table section5)
-  head-is = rw (fields-same n) at eh
+-- ---- what the two answer
 
-  named-is : named_with section5 head ≡ named_by section5
-  unfolding named_by
-  named-is = ap (named_with section5) head-is
+module _ (section5 : List ℕ) where
+  pub named-refused : {refusal : Refusal} → Read section5 (Err refusal) → Err refusal ≡ named_by section5
+  unfolding first named_by
+  named-refused r = rw (r.0, r.1)
 
-  read_is : (lent : List ℕ) → read_with section5 lent head ≡ read_section5 section5 lent
-  unfolding read_section5
-  read_is lent = ap (read_with section5 lent) head-is
+  pub read-refused : {refusal : Refusal} (lent : List ℕ) → Read section5 (Err refusal) → left (Err refusal) lent ≡ read_section5 section5 lent
+  unfolding first read_section5
+  read-refused lent r = rw (r.0, r.1)
 
-  pub named-refused : wrong ≡ true → named.Refused Section5 ≡ named_by section5
-  unfolding first
-  named-refused e = rw (← named-is, ← ea, ← ew, e)
+  module _ (fields : Fields) (r : Read section5 (Ok fields)) where
+    module _ {declared : ℕ} {t : Template} (ed : declared ≡ get_or fields.numbers 2 0) (et : t ≡ template_of (fields_of table fields.numbers)) where
+      declared-same : declared ≡ declared_of (fields_in table section5)
+      declared-same = ed ∙ declared-is section5 r.2
 
-  pub read-refused : (lent : List ℕ) → wrong ≡ true → left (fetched.Refused Section5) lent ≡ read_section5 section5 lent
-  unfolding first
-  read-refused lent e = rw (← read_is lent, ← ea, ← ew, e)
+      template-same : t ≡ template_of (fields_in table section5)
+      template-same = et ∙ ap template_of (fields-same section5 r.2)
 
-  module _ (right : wrong ≡ false) {t : Template} (et : t ≡ template_of (fields_of table numbers)) where
-    template-same : t ≡ template_of (fields_in table section5)
-    template-same = rw (fields-same n) at et
+      pub named-complex : fields.kind ≡ Complex → Ok (named.Complex declared t) ≡ named_by section5
+      unfolding first named_by
+      named-complex e = rw (r.0, ← r.1, e, declared-same, template-same)
 
-    pub named-complex : (head.template ≡ 3 → ⊥) → named.Complex (get_or numbers 2 0) t ≡ named_by section5
-    unfolding first
-    named-complex h = rw (← named-is, ← ea, ← ew, right, ← ap (λ (x : Head). x.template) head-is, ne_eqb head.template 3 h, declared-is n, template-same)
+      pub named-spatial : fields.kind ≡ Spatial → {d : Differencing} → d ≡ differencing_of (fields_of table fields.numbers) → Ok (named.Spatial declared t d) ≡ named_by section5
+      unfolding first named_by
+      named-spatial e eq = rw (r.0, ← r.1, e, declared-same, template-same, eq, fields-same section5 r.2)
 
-    pub named-spatial : head.template ≡ 3 → {d : Differencing} → d ≡ differencing_of (fields_of table numbers) → named.Spatial (get_or numbers 2 0) t d ≡ named_by section5
-    unfolding first
-    named-spatial h ed =
-        rw
-        (← named-is, ← ea, ← ew, right, ← ap (λ (x : Head). x.template) head-is, eq-eqb head.template 3 h, declared-is n, template-same, rw (fields-same n) at ed)
+    module _ {count : ℕ} (k : Counted (number fields.kind) count) where
+      -- as many numbers as a template has rows
+      pub front_length : count ≡ length (take count fields.numbers)
+      unfolding table
+      front_length = let long : length fields.numbers ≡ 22 = ap length r.2 in sym (length-take-le count fields.numbers (omega (arith, k.few)))
 
-  module _ (right : wrong ≡ false) {count : ℕ} (k : Counted head.template count) (lent : List ℕ) where
-    pub read-room : length lent / number_size < count → left (fetched.Refused Room) lent ≡ read_section5 section5 lent
-    unfolding first
-    read-room h = rw (← read_is lent, ← ea, ← ew, right, ← k.is, lt-ltb (length lent / number_size) count h)
+      pub front-room : (lent : List ℕ) → count ≤ length lent / number_size → length (take count fields.numbers) * number_size ≤ length lent
+      front-room lent h = omega (arith, front_length)
 
-    pub read_done : count ≤ length lent / number_size → {now : List ℕ} → now ≡ in_fours (take count numbers) over lent → left fetched.Done now ≡ read_section5 section5 lent
-    unfolding first
-    read_done h e = rw (← read_is lent, ← ea, ← ew, right, ← k.is, le-ltb (length lent / number_size) count h, e, n.are, take-map, take-map)
+      pub read-room : (lent : List ℕ) → length lent / number_size < count → left (Err Room) lent ≡ read_section5 section5 lent
+      unfolding first read_section5
+      read-room lent h = rw (r.0, ← r.1, ← k.is, lt-ltb (length lent / number_size) count h)
+
+      pub read_done : (lent : List ℕ) → count ≤ length lent / number_size → {now : List ℕ} → now ≡ in_fours (take count fields.numbers) over lent → left (Ok tt) now ≡ read_section5 section5 lent
+      unfolding first read_section5
+      read_done lent h e = rw (r.0, ← r.1, ← k.is, le-ltb (length lent / number_size) count h, e, r.2, take-map, take-map)

@@ -11,16 +11,12 @@ use lib.Seq.{take_all, get_or-take}
 use Rattle.format.specs.Lists.{listed, any_of, whole_ones, ◌over◌}
 use Rattle.format.specs.Bits.{number_at}
 use Rattle.format.specs.Layout.{big_endian, number_size, numbers_in, in_fours}
-use Rattle.format.specs.Refusals.{Row as Test, room_refusals, Left, left, fetched_number, stored_number}
+use Rattle.format.specs.Refusals.{Row as Test, first, room_refusals, Left, left, answer_number}
 use Rattle.format.specs.Section5.{row, table, section_size, field_count, rows_of, Field, field, numbers_of, field_in, fields_in, fields_of, laid, at, head_of, named_of, wrong_head, head_refusals, too_large, field_refusals, read_section5, write_section5, named_by}
 use Rattle.format.specs.declared.Row.{Row}
 use Rattle.format.specs.declared.Head.{Head}
 use Rattle.format.specs.declared.OctetPlace.{OctetPlace}
-use Rattle.format.specs.declared.Named.TheVariants as named
-use Rattle.format.specs.declared.Fetched.{Fetched}
-use Rattle.format.specs.declared.Fetched.TheVariants as fetched
-use Rattle.format.specs.declared.Stored.{Stored}
-use Rattle.format.specs.declared.Stored.TheVariants as stored
+use Rattle.format.specs.declared.Named.{Named}
 use Rattle.laws.specs.First.{Clear, clears, clear-row, among, passed, tests, refusal-some}
 use Rattle.laws.specs.Lists.{listed-front, listed-ext, listed-map, map-listed, length-map, map_at, any-not, length_over}
 use Rattle.laws.specs.Bits.{number_lt, number-below, bit-lt}
@@ -30,8 +26,20 @@ use Rattle.laws.specs.Section5.{row_of, length-laid, fields_back, octets-back, e
 use Rattle.section5.specs.Fields.{written_by}
 use Rattle.section5.specs.Claims.{template_of_numbers, FieldsBack, OctetsBack, NumberOne}
 use Rattle.section5.proofs.Rows.{in_table}
-use Rattle.section5.proofs.Answers.{read_with, named_with}
 use Rattle.section5.proofs.Writing.{with-head, numbers-length}
+use Rattle.format.specs.declared.Refusal.{Refusal}
+use Rattle.std.specs.declared.result.Result.{Result}
+use Rattle.std.specs.declared.result.Result.TheVariants.{Ok, Err}
+
+-- the two answers for a head
+abbrev named_with : List ℕ → Head → Result Named Refusal
+named_with section5 head = first Err (head_refusals (length section5) (section_size head.template) head) (Ok (named_of (fields_in table section5)))
+
+abbrev read_with : List ℕ → List ℕ → Head → Left (Result (Unit {0}) Refusal)
+read_with section5 lent head =
+    first (λ r. left (Err r) lent)
+    (head_refusals (length section5) (section_size head.template) head ++ room_refusals number_size lent (field_count head.template))
+    (left (Ok tt) (in_fours (numbers_of (fields_in (rows_of head.template) section5)) over lent))
 
 -- ---- the head stands in rows that both templates have
 
@@ -75,13 +83,13 @@ module _ (rows : List Row) (numbers : List ℕ) where
 
 -- ---- reading what was written
 
-abbrev spans : Left Stored → ℕ
-spans x = stored_number x.answer
+abbrev spans : Left (Result OctetPlace Refusal) → ℕ
+spans x = answer_number x.answer
 
-abbrev fetches : Left Fetched → ℕ
-fetches x = fetched_number x.answer
+abbrev fetches : Left (Result (Unit {0}) Refusal) → ℕ
+fetches x = answer_number x.answer
 
-module _ (numbers lent section5 : List ℕ) (span : OctetPlace) (e : left (stored.Span span) section5 ≡ write_section5 numbers lent) where
+module _ (numbers lent section5 : List ℕ) (span : OctetPlace) (e : left (Ok span) section5 ≡ write_section5 numbers lent) where
   abbrev head : Head
   head = head_of (fields_of table numbers)
 
@@ -94,12 +102,12 @@ module _ (numbers lent section5 : List ℕ) (span : OctetPlace) (e : left (store
   abbrev refusals : List Test
   refusals = head_refusals (length numbers) (field_count template) head ++ field_refusals fields (section_size template) lent
 
-  accepted : Clear refusals × (left (stored.Span span) section5 ≡ left (stored.Span (record { 0 = section_size template })) (laid fields lent))
+  accepted : Clear refusals × ◌≡◌ {A = Left (Result OctetPlace Refusal)} (left (Ok span) section5) (left (Ok (record { 0 = section_size template })) (laid fields lent))
   unfolding write_section5
-  accepted = passed (λ r. left (stored.Refused r) lent) refusals _ e (λ r d. absurd (omega (arith, ap spans d, refusal-some r)))
+  accepted = passed (λ r. left (Err r) lent) refusals _ e (λ r d. absurd (omega (arith, ap spans d, refusal-some r)))
 
   written_is : section5 ≡ laid fields lent
-  written_is = ap (λ (x : Left Stored). x.buffer) accepted.1
+  written_is = ap (λ (x : Left (Result OctetPlace Refusal)). x.buffer) accepted.1
 
   right : Right (length numbers) (field_count template) head
   right = right-head (length numbers) (field_count template) head (clear-row refusals accepted.0 (search among))
@@ -126,28 +134,28 @@ module _ (numbers lent section5 : List ℕ) (span : OctetPlace) (e : left (store
       head-right (length section5) (section_size template) head
       (record { enough = omega (arith, room, ap length written_is, length-laid fields lent); length = right.length; number = right.number; known = right.known })
 
-  read_back : (out : List ℕ) → field_count template * number_size ≤ length out → left fetched.Done (in_fours (take (field_count template) numbers) over out) ≡ read_section5 section5 out
+  read_back : (out : List ℕ) → field_count template * number_size ≤ length out → left (Ok tt) (in_fours (take (field_count template) numbers) over out) ≡ read_section5 section5 out
   unfolding read_section5
   read_back out h =
       let long : length (rows_of template) ≡ field_count template = rows-length template in
       let same : numbers_of (fields_in (rows_of template) section5) ≡ take (field_count template) numbers =
       ap numbers_of back ∙ numbers-of-fields (rows_of template) numbers (omega (arith, right.enough)) ∙ ap (λ (n : ℕ). take n numbers) long in
-      ap (λ (xs : List ℕ). left fetched.Done (in_fours xs over out)) (sym same)
-      ∙ clears (λ r. left (fetched.Refused r) out) (head_refusals (length section5) (section_size template) head ++ room_refusals number_size out (field_count template)) _ (good, (omega (arith, tests), tt))
+      ap (λ (xs : List ℕ). left (Ok tt) (in_fours xs over out)) (sym same)
+      ∙ clears (λ r. left (Err r) out) (head_refusals (length section5) (section_size template) head ++ room_refusals number_size out (field_count template)) _ (good, (omega (arith, tests), tt))
       ∙ ap (read_with section5 out) (sym same_head)
 
-  named_back : named_by section5 ≡ named_of (fields_of table numbers)
+  named_back : named_by section5 ≡ Ok (named_of (fields_of table numbers))
   unfolding named_by
   named_back =
-      ap (named_with section5) same_head ∙ sym (clears named.Refused (head_refusals (length section5) (section_size template) head) _ (good, tt))
-      ∙ sym (named-of-octets template section5 (ap (λ (x : Head). x.template) same_head)) ∙ ap (λ (fs : List Field). named_of fs) back ∙ named-of-numbers numbers
+      ap (named_with section5) same_head ∙ sym (clears Err (head_refusals (length section5) (section_size template) head) _ (good, tt))
+      ∙ ap Ok (sym (named-of-octets template section5 (ap (λ (x : Head). x.template) same_head)) ∙ ap (λ (fs : List Field). named_of fs) back ∙ named-of-numbers numbers)
 
 fields-return : FieldsBack
 fields-return numbers lent section5 fields span e h = read_back numbers lent section5 span e fields h
 
 -- ---- writing what was read
 
-module _ (section5 lent kept : List ℕ) (small : (i : ℕ) → get_or section5 i 0 < 256) (e : left fetched.Done kept ≡ read_section5 section5 lent) where
+module _ (section5 lent kept : List ℕ) (small : (i : ℕ) → get_or section5 i 0 < 256) (e : left (Ok tt) kept ≡ read_section5 section5 lent) where
   abbrev head_read : Head
   head_read = head_of (fields_in table section5)
 
@@ -160,12 +168,12 @@ module _ (section5 lent kept : List ℕ) (small : (i : ℕ) → get_or section5 
   abbrev read_refusals : List Test
   read_refusals = head_refusals (length section5) (section_size template_read) head_read ++ room_refusals number_size lent (field_count template_read)
 
-  read-accepted : Clear read_refusals × (left fetched.Done kept ≡ left fetched.Done (in_fours (numbers_of fields_read) over lent))
+  read-accepted : Clear read_refusals × ◌≡◌ {A = Left (Result (Unit {0}) Refusal)} (left (Ok tt) kept) (left (Ok tt) (in_fours (numbers_of fields_read) over lent))
   unfolding read_section5
-  read-accepted = passed (λ r. left (fetched.Refused r) lent) read_refusals _ e (λ r d. absurd (omega (arith, ap fetches d, refusal-some r)))
+  read-accepted = passed (λ r. left (Err r) lent) read_refusals _ e (λ r d. absurd (omega (arith, ap fetches d, refusal-some r)))
 
   kept-is : kept ≡ in_fours (numbers_of fields_read) over lent
-  kept-is = ap (λ (x : Left Fetched). x.buffer) read-accepted.1
+  kept-is = ap (λ (x : Left (Result (Unit {0}) Refusal)). x.buffer) read-accepted.1
 
   right-read : Right (length section5) (section_size template_read) head_read
   right-read = right-head (length section5) (section_size template_read) head_read (clear-row read_refusals read-accepted.0 (search among))
@@ -224,7 +232,7 @@ module _ (section5 lent kept : List ℕ) (small : (i : ℕ) → get_or section5 
   head-kept = sym (head-of-numbers (numbers_in kept) template_read) ∙ ap (λ (fs : List Field). head_of fs) fields-kept ∙ head-of-octets section5 template_read
 
   write-back : (octets : List ℕ) → section_size template_read ≤ length octets
-      → left (stored.Span (record { 0 = section_size template_read })) (take (section_size template_read) section5 over octets) ≡ write_section5 (numbers_in kept) octets
+      → left (Ok (record { 0 = section_size template_read })) (take (section_size template_read) section5 over octets) ≡ write_section5 (numbers_in kept) octets
   unfolding written_by
   write-back octets h =
       let numbers = numbers_in kept in
@@ -233,9 +241,9 @@ module _ (section5 lent kept : List ℕ) (small : (i : ℕ) → get_or section5 
       let good = head-right (length numbers) (field_count template_read) head_read (record { enough = many; length = right-read.length; number = right-read.number; known = right-read.known }) in
       let fits : any_of too_large fields ≡ false = rw fields-kept none-large in
       let same : take (section_size template_read) section5 over octets ≡ laid fields octets = sym (rw fields-kept (octets-back (covered template_read) section5 octets small right-read.enough h)) in
-      ap (λ (l : List ℕ). left (stored.Span (record { 0 = section_size template_read })) l) same
-      ∙ clears (λ r. left (stored.Refused r) octets) (field_refusals fields (section_size template_read) octets) _ (fits, (omega (arith, tests), tt))
-      ∙ clears (λ r. left (stored.Refused r) octets) (head_refusals (length numbers) (field_count template_read) head_read) _ (good, tt)
+      ap (λ (l : List ℕ). left (Ok (record { 0 = section_size template_read })) l) same
+      ∙ clears (λ r. left (Err r) octets) (field_refusals fields (section_size template_read) octets) _ (fits, (omega (arith, tests), tt))
+      ∙ clears (λ r. left (Err r) octets) (head_refusals (length numbers) (field_count template_read) head_read) _ (good, tt)
       ∙ with-head kept octets (sym head-kept)
 
 octets-return : OctetsBack

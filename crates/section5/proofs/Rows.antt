@@ -1,21 +1,23 @@
 -- The table's rows, how many of them a template has, and the numbers in their octets. Assumes nothing.
 use mathlib.Core.Path.{◌≡◌, refl, ap, ◌∙◌}
-use mathlib.Core.Bool.{Bool, true, false, not}
+use mathlib.Core.Bool.{Bool, true, false, not, ◌||◌, ◌&&◌, or-true}
 use mathlib.Core.List.{List}
-use Prim.Native.Nat.{ℕ, ◌+◌, ◌-◌, ◌*◌, ◌≤◌, ◌<◌}
-use native.Mathlib.Omega.{arith}
-use borrow.Author.Tests.{ltb-false, lt-ltb, le-ltb, eq-eqb, ne_eqb}
+use Prim.Native.Nat.{ℕ, ◌+◌, ◌-◌, ◌*◌, ◌<◌}
+use borrow.Author.Tests.{ltb-false, lt-ltb, eq-eqb, ne_eqb}
 use lib.Dec.{ltb, eqb}
 use lib.ListN.{get_or, set, replicate}
 use Rattle.format.specs.Lists.{listed, any_of, ◌over◌}
-use Rattle.format.specs.Section5.{row, table, section_size, field_count, field_in, fields_of, at, head_of, template_of, differencing_of, wrong_head}
+use Rattle.format.specs.Section5.{row, table, section_size, field_in, numbers_of, fields_in, fields_of, at, head_of, declared_of, template_of, differencing_of, wrong_head}
 use Rattle.format.specs.Template.{template_by}
 use Rattle.format.specs.declared.Template.{Template}
 use Rattle.format.specs.declared.Row.{Row}
 use Rattle.format.specs.declared.Head.{Head}
 use Rattle.laws.specs.Lists.{any_none, grown}
 use Rattle.laws.specs.Bits.{number_lt, bit-lt}
-use Rattle.section5.specs.Fields.{InTable, Counted, Numbers}
+use Rattle.section5.specs.Fields.{InTable, Fitting}
+use Rattle.section5.specs.Kind.{number}
+use Rattle.section5.specs.declared.kind.Kind.{Kind}
+use Rattle.section5.specs.declared.kind.Kind.TheVariants.{Complex, Spatial}
 
 -- ---- rows
 
@@ -36,51 +38,34 @@ in_table k l = record {
   small = ltb-false 4 (get_or table k (row 0 0)).size (each_row (λ r. ltb 4 r.size) refl k l);
 }
 
--- ---- templates
-
-module _ {template : ℕ} where
-  pub size-spatial : template ≡ 3 → 49 ≡ section_size template
-  unfolding section_size
-  size-spatial e = rw (eq-eqb template 3 e)
-
-  pub size-complex : (template ≡ 3 → ⊥) → 47 ≡ section_size template
-  unfolding section_size
-  size-complex e = rw (ne_eqb template 3 e)
-
-  pub counted-spatial : template ≡ 3 → Counted template 22
-  unfolding field_count
-  counted-spatial e = record { is = rw (eq-eqb template 3 e); some = omega arith; few = omega arith }
-
-  pub counted-complex : (template ≡ 3 → ⊥) → Counted template 20
-  unfolding field_count
-  counted-complex e = record { is = rw (ne_eqb template 3 e); some = omega arith; few = omega arith }
-
 -- ---- 14
 
-module _ (lent asked : ℕ) (head : Head) where
-  pub wrong-lent : lent < asked → true ≡ wrong_head lent asked head
+module _ (head : Head) (lent asked : ℕ) where
+  pub wrong-lent : lent < asked → wrong_head lent asked head ≡ true
   unfolding wrong_head
   wrong-lent h = rw (lt-ltb lent asked h)
 
-  module _ (enough : asked ≤ lent) where
-    pub wrong-length : (head.length ≡ section_size head.template → ⊥) → true ≡ wrong_head lent asked head
-    unfolding wrong_head
-    wrong-length h = rw (le-ltb lent asked enough, ne_eqb head.length (section_size head.template) h)
+  pub wrong-template : (head.template ≡ 2 → ⊥) → (head.template ≡ 3 → ⊥) → wrong_head lent asked head ≡ true
+  unfolding wrong_head
+  wrong-template n m = rw (ne_eqb head.template 2 n, ne_eqb head.template 3 m) (or-true _)
 
-    module _ (right : head.length ≡ section_size head.template) where
-      pub wrong-number : (head.number ≡ 5 → ⊥) → true ≡ wrong_head lent asked head
-      unfolding wrong_head
-      wrong-number h = rw (le-ltb lent asked enough, eq-eqb head.length (section_size head.template) right, ne_eqb head.number 5 h)
+  pub wrong-length : (head.length ≡ section_size head.template → ⊥) → wrong_head lent asked head ≡ true
+  unfolding wrong_head
+  wrong-length n = rw (ne_eqb head.length (section_size head.template) n, or-true (ltb lent asked))
 
-      pub right-complex : head.number ≡ 5 → head.template ≡ 2 → false ≡ wrong_head lent asked head
-      unfolding wrong_head
-      right-complex h t =
-          rw (le-ltb lent asked enough, eq-eqb head.length (section_size head.template) right, eq-eqb head.number 5 h, eq-eqb head.template 2 t)
+  pub wrong-number : (head.number ≡ 5 → ⊥) → wrong_head lent asked head ≡ true
+  unfolding wrong_head
+  wrong-number n = rw (ne_eqb head.number 5 n, or-true (ltb lent asked || not (eqb head.length (section_size head.template))))
 
-      pub right-spatial : head.number ≡ 5 → (head.template ≡ 2 → ⊥) → not (eqb head.template 3) ≡ wrong_head lent asked head
-      unfolding wrong_head
-      right-spatial h t =
-          rw (le-ltb lent asked enough, eq-eqb head.length (section_size head.template) right, eq-eqb head.number 5 h, ne_eqb head.template 2 t)
+  pub right_head : (kind : Kind) → number kind ≡ head.template → head.length ≡ section_size head.template → head.number ≡ 5 → wrong_head lent asked head ≡ ltb lent asked
+  unfolding wrong_head
+  right_head kind e l n = rw (eq-eqb head.length (section_size head.template) l, eq-eqb head.number 5 n, ← e) (by-kind kind (ltb lent asked))
+    where
+      by-kind : (k : Kind) (b : Bool) → (((b || false) || false) || (not (eqb (number k) 2) && not (eqb (number k) 3))) ≡ b
+      by-kind Complex true = refl
+      by-kind Complex false = refl
+      by-kind Spatial true = refl
+      by-kind Spatial false = refl
 
 -- ---- the numbers of all rows
 
@@ -93,41 +78,47 @@ module _ (section5 : List ℕ) where
 
   -- the first k of them are there
   pub record Filled (numbers : List ℕ) (k : ℕ) : Type 0 where
-    pub some : k ≤ 22
     pub front : numbers ≡ listed k number_of_row over replicate 22 0
 
   pub filled_none : Filled (replicate 22 0) 0
   unfolding listed
-  filled_none = record { some = omega arith; front = refl }
+  filled_none = record { front = refl }
 
   pub filled_more : {numbers : List ℕ} {k number : ℕ} → Filled numbers k → k < 22 → number ≡ number_of_row k → Filled (set numbers k number) (k + 1)
-  filled_more {k = k} f l e = record { some = omega arith; front = rw (f.front, e) (grown number_of_row (replicate 22 0) k l) }
+  filled_more {k = k} f l e = record { front = rw (f.front, e) (grown number_of_row (replicate 22 0) k l) }
+
+  pub filled-all : {numbers : List ℕ} {k : ℕ} → Filled numbers k → k ≡ 22 → numbers ≡ numbers_of (fields_in table section5)
+  unfolding table listed
+  filled-all f e = f.front ∙ ap (λ (n : ℕ). listed n number_of_row over replicate 22 0) e
 
   -- a row of one octet holds a number below 256
   fits-octet : (first : ℕ) → (field_in section5 (row first 1)).number < 256
   fits-octet first = number_lt (bit-lt 8 section5) ((first - 1) * 8) 8
 
-  pub filled-all : {numbers : List ℕ} {k : ℕ} → Filled numbers k → 22 ≤ k → Numbers section5 numbers
-  unfolding table listed
-  filled-all {numbers} {k} f l =
-      let e : k ≡ 22 = omega (arith, f.some) in
-      let same : numbers ≡ listed 22 number_of_row = f.front ∙ ap (λ (n : ℕ). listed n number_of_row over replicate 22 0) e in
+  pub fitting : {numbers : List ℕ} → numbers ≡ numbers_of (fields_in table section5) → Fitting numbers
+  unfolding table
+  fitting e =
+      rw e
       record {
-        are = same;
-        fit =
-            rw same
-            record {
-              width = fits-octet 20;
-              splitting = fits-octet 22;
-              management = fits-octet 23;
-              width-reference = fits-octet 36;
-              width-bits = fits-octet 37;
-              increment = fits-octet 42;
-              length-bits = fits-octet 47;
-              order = fits-octet 48;
-              octets = fits-octet 49;
-            };
+        width = fits-octet 20;
+        splitting = fits-octet 22;
+        management = fits-octet 23;
+        width-reference = fits-octet 36;
+        width-bits = fits-octet 37;
+        increment = fits-octet 42;
+        length-bits = fits-octet 47;
+        order = fits-octet 48;
+        octets = fits-octet 49;
       }
+
+  -- the fields of those numbers are those that it holds
+  pub fields-same : {numbers : List ℕ} → numbers ≡ numbers_of (fields_in table section5) → fields_of table numbers ≡ fields_in table section5
+  unfolding table listed
+  fields-same e = rw e
+
+  pub declared-is : {numbers : List ℕ} → numbers ≡ numbers_of (fields_in table section5) → get_or numbers 2 0 ≡ declared_of (fields_in table section5)
+  unfolding table listed at
+  declared-is e = rw e
 
 -- ---- what the numbers say
 

@@ -2,11 +2,13 @@
 use Rattle.std.specs.Prelude.{◌≡◌, List, ℕ, ◌+◌, ◌-◌, ◌≤◌, ◌<◌, length, get_or}
 use Rattle.format.specs.Lists.{whole_ones}
 use Rattle.format.specs.Layout.{number_size, numbers_in}
-use Rattle.format.specs.Section5.{row, table, section_size, field_count, rows_of, Field, field, numbers_of, fields_in, fields_of, laid, field_refusals}
+use Rattle.format.specs.Section5.{row, table, section_size, rows_of, Field, field, fields_of, laid, field_refusals}
 use Rattle.format.specs.Refusals.{first, Left, left}
+use Rattle.format.specs.declared.OctetPlace.{OctetPlace}
+use Rattle.format.specs.declared.Refusal.{Refusal}
 use Rattle.format.specs.declared.Row.{Row}
-use Rattle.format.specs.declared.Stored.{Stored}
-use Rattle.format.specs.declared.Stored.TheVariants as stored
+use Rattle.std.specs.declared.result.Result.{Result}
+use Rattle.std.specs.declared.result.Result.TheVariants.{Ok, Err}
 
 -- row k of the table, and the limits of all rows
 pub record InTable (k : ℕ) (r : Row) : Type 0 where
@@ -17,12 +19,6 @@ pub record InTable (k : ℕ) (r : Row) : Type 0 where
   pub ended : r.first ≤ 49
   pub some : 1 ≤ r.size
   pub small : r.size ≤ 4
-
--- how many rows a template has
-pub record Counted (template count : ℕ) : Type 0 where
-  pub is : count ≡ field_count template
-  pub some : 20 ≤ count
-  pub few : count ≤ 22
 
 -- the numbers of rows of one octet fit it
 pub record Fitting (numbers : List ℕ) : Type 0 where
@@ -36,11 +32,6 @@ pub record Fitting (numbers : List ℕ) : Type 0 where
   pub order : get_or numbers 20 0 < 256
   pub octets : get_or numbers 21 0 < 256
 
--- the numbers that Section 5 holds
-pub record Numbers (section5 numbers : List ℕ) : Type 0 where
-  pub are : numbers ≡ numbers_of (fields_in table section5)
-  pub fit : Fitting numbers
-
 -- the field of row k, of numbers that are lent
 abbrev pub lent_field : List ℕ → ℕ → Field
 lent_field fields k = field (get_or table k (row 0 0)) (get_or (numbers_in fields) k 0)
@@ -52,8 +43,8 @@ pub record Writable (fields : List ℕ) (k : ℕ) (section5 : List ℕ) : Type 0
   pub room : (get_or table k (row 0 0)).first - 1 + (get_or table k (row 0 0)).size ≤ length section5
 
 -- what is left of writing once the head is right
-unfoldable pub written_by : ℕ → List ℕ → List ℕ → Left Stored
+unfoldable pub written_by : ℕ → List ℕ → List ℕ → Left (Result OctetPlace Refusal)
 written_by template numbers lent =
     let fields = fields_of (rows_of template) numbers in
-    first (λ r. left (stored.Refused r) lent) (field_refusals fields (section_size template) lent)
-    (left (stored.Span (record { 0 = section_size template })) (laid fields lent))
+    first (λ r. left (Err r) lent) (field_refusals fields (section_size template) lent)
+    (left (Ok (record { 0 = section_size template })) (laid fields lent))

@@ -1,2 +1,4 @@
-pub mod Fields
 pub mod Claims
+pub mod Fields
+pub mod Kind
+pub mod Read

@@ -5,13 +5,16 @@ ghost use Rattle.std.specs.Prelude.{◌≡◌, ◌∷◌, [], ◌<◌, ◌≤◌
 ghost use Rattle.format.specs.Lists.{any_of, whole_ones};
 ghost use Rattle.format.specs.Layout.{number_size, numbers_in};
 ghost use Rattle.format.specs.Refusals.{left};
-ghost use Rattle.format.specs.Section5.{row, table, section_size, field_count, rows_of, field_in, fields_of, laid, head_of, template_of, differencing_of, wrong_head, too_large, read_section5, write_section5, named_by};
-ghost use Rattle.section5.specs.Fields.{InTable, Counted, Numbers, Fitting, lent_field, Writable, written_by};
+ghost use Rattle.format.specs.Section5.{row, table, section_size, field_count, rows_of, fields_of, laid, too_large, read_section5, write_section5, named_by};
+ghost use Rattle.section5.specs.Kind.{number};
+ghost use Rattle.section5.specs.Fields.{InTable, lent_field, Writable, written_by};
 
-use format::{
-    BitPlace, Differencing, Fetched, Head, NUMBER_SIZE, Named, OctetPlace, Refusal, Row, Stored,
-    Template,
-};
+mod fields;
+mod kind;
+
+use fields::Fields;
+use format::{Head, NUMBER_SIZE, Named, OctetPlace, Refusal, Row};
+use kind::Kind;
 
 // "one row a field with its first octet and size". The fields of a section stand in this order wherever they are listed.
 const ROWS: [Row; 22] = [
@@ -47,143 +50,30 @@ fn row_at(k: usize) -> Row
     ROWS[k]
 }
 
-// "templates 5.2 (47 octets) and 5.3 (49)"
-fn section_size(template: u32) -> usize
-    ensures { result ≡ section_size template }
-{
-    if template == 3 { 49 } else { 47 }
-}
-
-// How many rows of the table are the template's.
-fn field_count(template: u32) -> usize
-    ensures { Counted template result }
-{
-    if template == 3 { 22 } else { 20 }
-}
-
-// The number in a row's octets. Octets past the end count as 0.
-fn number_at(section5: &[u8], k: usize) -> u32
-    requires { k < 22 }
-    ensures { result ≡ (field_in section5.now (get_or table k (row 0 0))).number }
-{
-    let row = row_at(k);
-    stream::read_number(section5, BitPlace((row.first - 1) * 8), row.size * 8)
-}
-
-// The numbers of all rows.
-fn numbers_in(section5: &[u8]) -> [u32; 22]
-    ensures { Numbers section5.now result }
-{
-    let mut numbers = [0u32; 22];
-    let mut k = 0usize;
-    while k < 22 {
-        numbers[k] = number_at(section5, k);
-        k += 1;
-    }
-    numbers
-}
-
-// 14: "fewer octets are lent than the template has, the length is not the template's, the section number is not 5, or the
-// template is neither".
-fn is_wrong_head(lent: usize, asked: usize, head: Head) -> bool
-    ensures { result ≡ wrong_head lent asked head }
-{
-    if lent < asked {
-        return true;
-    }
-    if places::size(head.length) != section_size(head.template) {
-        return true;
-    }
-    if head.number != 5 {
-        return true;
-    }
-    if head.template == 2 {
-        return false;
-    }
-    head.template != 3
-}
-
-// By their places in the table: section length, section number, template.
-fn head_of(numbers: [u32; 22]) -> Head
-    ensures { result ≡ head_of (fields_of table numbers) }
-{
-    Head {
-        length: numbers[0],
-        number: numbers[1],
-        template: numbers[3],
-    }
-}
-
-// The number of a row of one octet.
-fn octet(number: u32) -> u8
-    requires { number < 256 }
-    ensures { result ≡ number }
-{
-    number as u8
-}
-
-// Number width, splitting method, missing management, groups; width reference and bits; length reference, increment, last
-// length, bits.
-fn template_of(numbers: [u32; 22]) -> Template
-    requires { Fitting numbers }
-    ensures { result ≡ template_of (fields_of table numbers) }
-{
-    layout::template_by(
-        octet(numbers[7]),
-        octet(numbers[9]),
-        octet(numbers[10]),
-        numbers[13],
-        octet(numbers[14]),
-        octet(numbers[15]),
-        numbers[16],
-        octet(numbers[17]),
-        numbers[18],
-        octet(numbers[19]),
-    )
-}
-
-// Order and descriptor octets, which 5.3 alone has.
-fn differencing_of(numbers: [u32; 22]) -> Differencing
-    requires { Fitting numbers }
-    ensures { result ≡ differencing_of (fields_of table numbers) }
-{
-    Differencing {
-        order: octet(numbers[20]),
-        octets: octet(numbers[21]),
-    }
-}
-
 // What Section 5 names: the declared points, and the numbers of its template.
-pub fn named(section5: &[u8]) -> Named
+pub fn named(section5: &[u8]) -> Result<Named, Refusal>
     ensures { result ≡ named_by section5.now }
 {
-    let numbers = numbers_in(section5);
-    let head = head_of(numbers);
-    if is_wrong_head(section5.len(), section_size(head.template), head) {
-        return Named::Refused(Refusal::Section5);
+    let fields = Fields::read(section5)?;
+    let declared = fields.declared();
+    let template = fields.template();
+    match fields.kind {
+        Kind::Complex => Ok(Named::Complex(declared, template)),
+        Kind::Spatial => Ok(Named::Spatial(declared, template, fields.differencing())),
     }
-    let template = template_of(numbers);
-    if head.template == 3 {
-        return Named::Spatial(numbers[2], template, differencing_of(numbers));
-    }
-    Named::Complex(numbers[2], template)
 }
 
 // Section 5's fields, four octets each.
-pub fn read_section5(section5: &[u8], fields: &mut [u8]) -> Fetched
+pub fn read_section5(section5: &[u8], fields: &mut [u8]) -> Result<(), Refusal>
     ensures { left result fields.new ≡ read_section5 section5.now fields.old }
 {
-    let numbers = numbers_in(section5);
-    let head = head_of(numbers);
-    if is_wrong_head(section5.len(), section_size(head.template), head) {
-        return Fetched::Refused(Refusal::Section5);
-    }
-    let count = field_count(head.template);
+    let read = Fields::read(section5)?;
+    let count = read.kind.field_count();
     if fields.len() / NUMBER_SIZE < count {
-        return Fetched::Refused(Refusal::Room);
+        return Err(Refusal::Room);
     }
-    layout::store_numbers(&numbers[..count], fields);
-    Fetched::Done
+    layout::store_all(&read.numbers[..count], fields);
+    Ok(())
 }
 
 // Whether a number that is lent is too large for its row's octets.
@@ -195,19 +85,11 @@ fn is_too_large(fields: &[u8], k: usize) -> bool
 }
 
 // 13: whether one is, of those for the rows of a template.
-fn any_too_large(fields: &[u8], template: u32) -> bool
-    requires { field_count template ≤ whole_ones number_size fields.now }
-    ensures { result ≡ any_of too_large (fields_of (rows_of template) (numbers_in fields.now)) }
+fn any_too_large(fields: &[u8], kind: Kind) -> bool
+    requires { field_count (number kind) ≤ whole_ones number_size fields.now }
+    ensures { result ≡ any_of too_large (fields_of (rows_of (number kind)) (numbers_in fields.now)) }
 {
-    let count = field_count(template);
-    let mut k = 0usize;
-    while k < count {
-        if is_too_large(fields, k) {
-            return true;
-        }
-        k += 1;
-    }
-    false
+    (0..kind.field_count()).any(|k| is_too_large(fields, k))
 }
 
 // A number that is lent, in its row's octets.
@@ -221,50 +103,48 @@ fn write_field(fields: &[u8], k: usize, section5: &mut [u8])
 }
 
 // All of them, for the rows of a template.
-fn write_fields(fields: &[u8], template: u32, section5: &mut [u8])
-    requires { (field_count template ≤ whole_ones number_size fields.now) × (section_size template ≤ length section5.old) }
-    ensures { section5.new ≡ laid (fields_of (rows_of template) (numbers_in fields.now)) section5.old }
+fn write_fields(fields: &[u8], kind: Kind, section5: &mut [u8])
+    requires { (field_count (number kind) ≤ whole_ones number_size fields.now) × (section_size (number kind) ≤ length section5.old) }
+    ensures { section5.new ≡ laid (fields_of (rows_of (number kind)) (numbers_in fields.now)) section5.old }
 {
-    let count = field_count(template);
-    let mut k = 0usize;
-    while k < count {
+    for k in 0..kind.field_count() {
         write_field(fields, k, section5);
-        k += 1;
     }
 }
 
 // What is left of writing once the head is right: 13, 10, then the octets.
-fn write_checked(fields: &[u8], template: u32, section5: &mut [u8]) -> Stored
-    requires { field_count template ≤ whole_ones number_size fields.now }
-    ensures { left result section5.new ≡ written_by template (numbers_in fields.now) section5.old }
+fn write_checked(fields: &[u8], kind: Kind, section5: &mut [u8]) -> Result<OctetPlace, Refusal>
+    requires { field_count (number kind) ≤ whole_ones number_size fields.now }
+    ensures { left result section5.new ≡ written_by (number kind) (numbers_in fields.now) section5.old }
 {
-    if any_too_large(fields, template) {
-        return Stored::Refused(Refusal::Numbers);
+    if any_too_large(fields, kind) {
+        return Err(Refusal::Numbers);
     }
-    let size = section_size(template);
+    let size = kind.section_size();
     if section5.len() < size {
-        return Stored::Refused(Refusal::Room);
+        return Err(Refusal::Room);
     }
-    write_fields(fields, template, section5);
-    Stored::Span(OctetPlace(size))
+    write_fields(fields, kind, section5);
+    Ok(OctetPlace(size))
 }
 
 // Section 5 of fields, four octets each. It answers the octets written. Every template has twenty rows or more, so that fewer
 // numbers are 14 whatever they are.
-pub fn write_section5(fields: &[u8], section5: &mut [u8]) -> Stored
+pub fn write_section5(fields: &[u8], section5: &mut [u8]) -> Result<OctetPlace, Refusal>
     ensures { left result section5.new ≡ write_section5 (numbers_in fields.now) section5.old }
 {
     let count = fields.len() / NUMBER_SIZE;
     if count < 20 {
-        return Stored::Refused(Refusal::Section5);
+        return Err(Refusal::Section5);
     }
     let head = Head {
         length: layout::number_in(fields, 0),
         number: layout::number_in(fields, 1),
         template: layout::number_in(fields, 3),
     };
-    if is_wrong_head(count, field_count(head.template), head) {
-        return Stored::Refused(Refusal::Section5);
+    let kind = Kind::of(head)?;
+    if count < kind.field_count() {
+        return Err(Refusal::Section5);
     }
-    write_checked(fields, head.template, section5)
+    write_checked(fields, kind, section5)
 }

@@ -1,6 +1,7 @@
--- `section5::numbers_in` meets its contract. Assumes nothing.
+-- `section5::fields::numbers_in` meets its contract. Assumes nothing.
+use native.Mathlib.Omega.{arith}
 use Rattle.section5.proofs.Rows.{filled_none, filled_more, filled-all}
-use Rattle.section5.proofs.numbers_in.Goals as goal
+use Rattle.section5.proofs.fields.numbers_in.Goals as goal
 
 pub loop-k-init : goal.loop-k-init
 loop-k-init c = search filled_none
@@ -9,4 +10,4 @@ pub loop-k-preserved : goal.loop-k-preserved
 loop-k-preserved c = search filled_more
 
 pub returns : goal.returns
-returns c = search filled-all
+returns c = filled-all _ c.loop-k.invariant (omega arith)

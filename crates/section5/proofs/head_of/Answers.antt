@@ -1,6 +1,0 @@
--- `section5::head_of` meets its contract. Assumes nothing.
-use Rattle.section5.proofs.Rows.{head-is}
-use Rattle.section5.proofs.head_of.Goals as goal
-
-pub returns : goal.returns
-returns c = search head-is
