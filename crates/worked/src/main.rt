@@ -7,56 +7,27 @@ use format::BitPlace;
 use std::io;
 use std::io::Write;
 
-fn say<W: Write>(out: &mut W, words: &[u8]) -> io::Result<()> {
-    out.write_all(words)
-}
+// What stands for a bit that is 0 and for one that is 1: in a number, and where the bits of one are pointed out.
+const DIGITS: [char; 2] = ['0', '1'];
 
-fn show<W: Write>(out: &mut W, words: &[u8], number: usize) -> io::Result<()> {
-    say(out, words)?;
-    write!(out, "{number}")
-}
+const MARKS: [char; 2] = ['.', '^'];
 
-// The bit of an octet that `after` others follow: the first sign for 0, the second for 1.
-fn show_bit<W: Write>(out: &mut W, octet: u8, after: usize, signs: &[u8; 2]) -> io::Result<()>
-    requires { after < 8 }
-{
-    let bit = places::cut(places::wide(octet), after, 1) as usize;
-    let sign = [signs[bit]];
-    say(out, &sign)
-}
-
-fn show_octet<W: Write>(out: &mut W, octet: u8, signs: &[u8; 2]) -> io::Result<()> {
-    say(out, b" ")?;
-    show_bit(out, octet, 7, signs)?;
-    show_bit(out, octet, 6, signs)?;
-    show_bit(out, octet, 5, signs)?;
-    show_bit(out, octet, 4, signs)?;
-    show_bit(out, octet, 3, signs)?;
-    show_bit(out, octet, 2, signs)?;
-    show_bit(out, octet, 1, signs)?;
-    show_bit(out, octet, 0, signs)
-}
-
-// All 64 bits of a number, on a line.
-fn show_bits<W: Write>(out: &mut W, number: u64, signs: &[u8; 2]) -> io::Result<()> {
-    say(out, b"   ")?;
-    show_octet(out, places::octet_in(number, 56), signs)?;
-    show_octet(out, places::octet_in(number, 48), signs)?;
-    show_octet(out, places::octet_in(number, 40), signs)?;
-    show_octet(out, places::octet_in(number, 32), signs)?;
-    show_octet(out, places::octet_in(number, 24), signs)?;
-    show_octet(out, places::octet_in(number, 16), signs)?;
-    show_octet(out, places::octet_in(number, 8), signs)?;
-    show_octet(out, places::octet_in(number, 0), signs)?;
-    say(out, b"\n")
-}
-
-fn show_octets<W: Write>(out: &mut W, octets: &[u8; 7]) -> io::Result<()> {
-    say(out, b"   ")?;
-    for octet in octets {
-        show_octet(out, *octet, b"01")?;
+fn show_octet<W: Write>(out: &mut W, octet: u8, [zero, one]: [char; 2]) -> io::Result<()> {
+    write!(out, " ")?;
+    for after in (0..8u32).rev() {
+        let sign = if (octet >> after) % 2 == 1 { one } else { zero };
+        write!(out, "{sign}")?;
     }
-    say(out, b"\n")
+    Ok(())
+}
+
+// All bits of some octets, on a line.
+fn show_bits<W: Write>(out: &mut W, octets: &[u8], signs: [char; 2]) -> io::Result<()> {
+    write!(out, "   ")?;
+    for octet in octets {
+        show_octet(out, *octet, signs)?;
+    }
+    writeln!(out)
 }
 
 // Ones where a number of `width` bits stands that `after` bits follow.
@@ -71,16 +42,11 @@ fn show_place<W: Write>(out: &mut W, place: BitPlace, width: usize) -> io::Resul
     requires { width ≤ 32 }
 {
     let bit = places::bit_in_octet(place);
-    show(out, b"It starts at bit ", bit)?;
-    show(out, b" of octet ", places::octet_of(place).0)?;
-    show(
+    let octet = places::octet_of(place).0;
+    let touched = places::span(BitPlace(bit), width, 1).0;
+    writeln!(
         out,
-        b" and touches ",
-        places::span(BitPlace(bit), width, 1).0,
-    )?;
-    say(
-        out,
-        b" octets. Five from there on are gathered into one 64-bit number:\n",
+        "It starts at bit {bit} of octet {octet} and touches {touched} octets. Five from there on are gathered into one 64-bit number:"
     )
 }
 
@@ -90,31 +56,29 @@ fn show_steps<W: Write>(out: &mut W, gathered: u64, bit: usize, width: usize) ->
 {
     let after = 40 - bit - width;
     let shifted = gathered >> after;
-    show_bits(out, gathered, b"01")?;
-    show_bits(out, own_bits(after, width), b".^")?;
-    show(out, b"One shift, by 40 - ", bit)?;
-    show(out, b" - ", width)?;
-    show(out, b" = ", after)?;
-    say(out, b" bits:\n")?;
-    show_bits(out, shifted, b"01")?;
-    show(out, b"One remainder, by 2 to the ", width)?;
-    say(out, b":\n")?;
-    show_bits(out, places::cut(gathered, after, width), b"01")
+    let number = shifted % places::power(width);
+    show_bits(out, &gathered.to_be_bytes(), DIGITS)?;
+    show_bits(out, &own_bits(after, width).to_be_bytes(), MARKS)?;
+    writeln!(out, "One shift, by 40 - {bit} - {width} = {after} bits:")?;
+    show_bits(out, &shifted.to_be_bytes(), DIGITS)?;
+    writeln!(out, "One remainder, by 2 to the {width}:")?;
+    show_bits(out, &number.to_be_bytes(), DIGITS)
 }
 
 fn main(rt: HostRuntime) -> io::Result<()> {
-    let mut out = io::writer(&rt);
+    let out = &mut io::writer(&rt);
     let octets = b"\x5D\xB3\x9E\x07\xF1\x44\x52";
     let place = BitPlace(13);
-    let width = 14usize;
-    show(&mut out, b"A number of ", width)?;
-    show(&mut out, b" bits, from bit ", place.0)?;
-    say(&mut out, b" of these octets on, all counted from 0:\n")?;
-    show_octets(&mut out, octets)?;
-    show_place(&mut out, place, width)?;
+    let width = 14;
+    let first = place.0;
+    writeln!(
+        out,
+        "A number of {width} bits, from bit {first} of these octets on, all counted from 0:"
+    )?;
+    show_bits(out, octets, DIGITS)?;
+    show_place(out, place, width)?;
     let gathered = stream::five_from(octets, places::octet_of(place));
-    show_steps(&mut out, gathered, places::bit_in_octet(place), width)?;
+    show_steps(out, gathered, places::bit_in_octet(place), width)?;
     let number = stream::read_number(octets, place, width);
-    show(&mut out, b"That is ", number as usize)?;
-    say(&mut out, b".\n")
+    writeln!(out, "That is {number}.")
 }
