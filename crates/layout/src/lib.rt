@@ -19,7 +19,8 @@ use format::{
     OctetPlace, POINT_SIZE, Template, Widths,
 };
 
-// What lies in lent octets, each as long as the other: a level, a number, a group, a point.
+// What lies in lent octets, each as long as the other: a level, a number, a group, a point. SIZE is that length, and `octets_of`
+// says the octets.
 pub trait InOctets: Copy {
     ghost SIZE: { ℕ };
 
@@ -62,7 +63,7 @@ impl InOctets for u16 {
     }
 }
 
-// A number.
+// A number, "big-endian" as each of them.
 impl InOctets for u32 {
     ghost SIZE = { number_size };
 
@@ -97,7 +98,7 @@ impl InOctets for Group {
     }
 }
 
-// A point.
+// "nine octets, the mark and then the number", which `to_be_bytes` has in two's complement.
 impl InOctets for DecodedValue {
     ghost SIZE = { point_size };
 
@@ -143,35 +144,12 @@ pub fn store(octets: &mut [u8], at: usize, x: u64, n: usize)
     octets[at..at + n].copy_from_slice(&x.to_be_bytes()[8 - n..]);
 }
 
-// Level k.
-pub fn store_level(octets: &mut [u8], k: usize, level: u16)
-    requires { (k + 1) * level_size ≤ length octets.old }
-    ensures { octets.new ≡ sets octets.old (k * level_size) (level_octets level) }
-{
-    level.store(octets, k);
-}
-
-// Number k of those that take four octets each.
-pub fn store_number(octets: &mut [u8], k: usize, number: u32)
-    requires { (k + 1) * number_size ≤ length octets.old }
-    ensures { octets.new ≡ sets octets.old (k * number_size) (big_endian number_size number) }
-{
-    number.store(octets, k);
-}
-
 // Number k of those that take SIZE octets each: LEVEL_SIZE or NUMBER_SIZE.
 pub fn whole_in<const SIZE: usize>(octets: &[u8], k: usize) -> u32
     requires { (SIZE ≤ 4) × ((k + 1) * SIZE ≤ length octets.now) }
     ensures { result ≡ number_at octets.now (k * (SIZE * 8)) (SIZE * 8) }
 {
     stream::read_whole::<SIZE>(octets, OctetPlace(k * SIZE))
-}
-
-pub fn level_in(octets: &[u8], k: usize) -> u32
-    requires { (k + 1) * level_size ≤ length octets.now }
-    ensures { result ≡ number_at octets.now (k * 16) 16 }
-{
-    whole_in::<LEVEL_SIZE>(octets, k)
 }
 
 pub fn number_in(octets: &[u8], k: usize) -> u32
@@ -227,13 +205,6 @@ pub fn held_by(point: DecodedValue) -> i64
         DecodedValue::Normal(number) => number,
         DecodedValue::Missing1 | DecodedValue::Missing2 => 0,
     }
-}
-
-pub fn store_point(octets: &mut [u8], k: usize, point: DecodedValue)
-    requires { (k + 1) * point_size ≤ length octets.old }
-    ensures { octets.new ≡ sets octets.old (k * point_size) (point_octets point) }
-{
-    point.store(octets, k);
 }
 
 // The number of point k, whose mark stays.
