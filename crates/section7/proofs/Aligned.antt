@@ -1,21 +1,18 @@
 -- A part that starts on an octet. Assumes nothing.
-use mathlib.Core.Path.{◌≡◌, refl, sym, ap, ap₂, ◌∙◌}
-use mathlib.Core.List.{List, ◌++◌}
-use Prim.Native.Nat.{ℕ, ◌+◌, ◌*◌, ◌≤◌, ◌<◌}
-use native.Mathlib.Nat.{mul-zero, le_refl}
-use native.Mathlib.Omega.{arith}
-use lib.ListN.{length, get_or, take, drop, length-append, take-append-drop}
+use Rattle.std.proofs.Common.{◌≡◌, ℕ, ◌+◌, ◌*◌, ◌<◌, ◌≤◌, List, ◌++◌, map, length, get_or, take, drop, refl, sym, ap, ap₂, ◌∙◌, arith}
+use native.Mathlib.Nat.{mul-zero, add-mul, le_refl}
+use lib.ListN.{length-append, take-append-drop}
 use lib.Seq.{sets, sets-eq, ext_get_or, get_or-take, length-take-le, get_or-append-add}
 use Rattle.format.specs.Lists.{listed, ◌over◌}
 use Rattle.format.specs.Bits.{bit_at, number_of, bit, string_of, octets_of, rounded_up, padded}
+use Rattle.format.specs.declared.Group.{Group}
 use Rattle.format.specs.declared.OctetPlace.{OctetPlace}
-use Rattle.laws.specs.Lists.{length-listed, get_or-listed, listed-ext, listed-add}
+use Rattle.laws.specs.Lists.{length-listed, get_or-listed, listed-ext, listed-add, length-map}
 use Rattle.laws.specs.Bits.{bit-lt, number-ext, octet}
-use Rattle.laws.specs.Strings.{bits-listed, octets-front, number_past, length-string, length-padded}
-use Rattle.writer.specs.Pen.{Held, Ready, Moved, Finished}
+use Rattle.laws.specs.Strings.{bits-listed, octets-front, number_past, length-string, string-append, length-padded}
+use Rattle.writer.specs.Pen.{Held, Ready, Moved, Finished, fresh}
 use Rattle.writer.specs.declared.Pen.{Pen}
-use Rattle.writer.proofs.Pens.{fresh, moved_ready, moved_then}
-use Rattle.section7.specs.Parts.{Begun}
+use Rattle.writer.proofs.Pens.{fresh-ready, moved_ready, moved_then}
 
 -- octets are those of their bits
 octets-own : (octets : List ℕ) → ((k : ℕ) → get_or octets k 0 < 256) → (n : ℕ) → n ≤ length octets → octets_of (listed (n * 8) (bit_at octets)) n ≡ take n octets
@@ -43,29 +40,19 @@ none-set w xs octets at e =
     let none : length (string_of w xs) ≡ 0 = length-string w xs ∙ ap (λ (n : ℕ). length xs * n) e ∙ mul-zero (length xs) in
     ap (λ (n : ℕ). sets octets at (octets_of (string_of w xs) (rounded_up n))) (sym none)
 
--- what stood before the part is as good as written by the pen
-pub begun : {p : Pen} {place : OctetPlace} → p ≡ fresh place → {more octets octets' : List ℕ} {q : Pen} → Moved p more octets octets' q → {n : ℕ} → length more ≡ n
-    → place.0 + rounded_up n ≤ length octets → ((k : ℕ) → get_or octets k 0 < 256) → Begun place more octets octets' q
-begun e m size room h = record { below = h; room = rw size room; moved = rw e at m }
+module _ {p : Pen} {place : OctetPlace} (e : p ≡ fresh place) {more octets octets' : List ℕ} {q : Pen} (m : Moved p more octets octets' q) where
+  -- what the part has room for behind what is written
+  pub part-ready : (n : ℕ) → place.0 + rounded_up (length more + n) ≤ length octets → Ready q n octets'
+  part-ready n l = moved_ready m n (fresh-ready e (length more + n) l) (le_refl (length more + n))
 
-module _ {place : OctetPlace} {more octets octets' : List ℕ} {q : Pen} (s : Begun place more octets octets' q) where
-  -- there is room for a last number
-  pub begun-ready : (w : ℕ) → place.0 + rounded_up (length more + w) ≤ length octets → Ready q w octets'
-  begun-ready w l = moved_ready s.moved w (record { few = omega arith; small = omega arith; room = omega arith }) (le_refl (length more + w))
-
-  pub begun_more : {last octets'' : List ℕ} {r : Pen} → Moved q last octets' octets'' r → place.0 + rounded_up (length more + length last) ≤ length octets → Begun place (more ++ last) octets octets'' r
-  begun_more {last} m l = record { below = s.below; room = rw (length-append more last) l; moved = moved_then s.moved m }
-
-  pub part-ready : Ready q 0 octets'
-  part-ready = begun-ready 0 (omega (arith, s.room))
-
-  pub part-done : {octets'' : List ℕ} → Finished q octets' octets'' → octets'' ≡ sets octets place.0 (padded more)
-  part-done f =
+  -- what stood before the part is as good as written by the pen
+  pub part-done : place.0 + rounded_up (length more) ≤ length octets → ((k : ℕ) → get_or octets k 0 < 256) → {octets'' : List ℕ} → Finished q octets' octets'' → octets'' ≡ sets octets place.0 (padded more)
+  part-done room below f =
       let at = place.0 in
       let string = listed (at * 8) (bit_at octets) in
       let long : length string ≡ at * 8 = length-listed (at * 8) (bit_at octets) in
-      let own : octets_of string at ≡ take at octets = octets-own octets s.below at (omega (arith, s.room)) in
-      let front : length (take at octets) ≡ at = length-take-le at octets (omega (arith, s.room)) in
+      let own : octets_of string at ≡ take at octets = octets-own octets below at (omega arith) in
+      let front : length (take at octets) ≡ at = length-take-le at octets (omega arith) in
       let all : rounded_up (length (string ++ more)) ≡ at + rounded_up (length more) = omega (arith, length-append string more, long) in
       let held : Held string octets octets at 0 0 = record {
         bits = bits-listed (at * 8) (bit_at octets) (bit-lt 8 octets);
@@ -74,7 +61,36 @@ module _ {place : OctetPlace} {more octets octets' : List ℕ} {q : Pen} (s : Be
         front = rw (own, front) (sym (take-append-drop at octets));
         long = refl;
       } in
-      f _ _ (s.moved.held string octets held)
+      f _ _ ((rw e at m).held string octets held)
       ∙ ap (λ (o : List ℕ). o over octets) (ap (octets_of (string ++ more)) all ∙ octets-behind string more at (rounded_up (length more)) long ∙ ap (λ (o : List ℕ). o ++ padded more) own)
       ∙ ap (λ (i : ℕ). take at octets ++ padded more ++ drop i octets) (length-append (take at octets) (padded more) ∙ ap (λ (i : ℕ). i + length (padded more)) front)
-      ∙ sym (sets-eq (padded more) octets at (omega (arith, length-padded more, s.room)))
+      ∙ sym (sets-eq (padded more) octets at (omega (arith, length-padded more)))
+
+-- codes of groups, and the codes behind them
+module _ (coded : Group → ℕ) (w : ℕ) (groups : List Group) (last : List ℕ) where
+  abbrev codes : List ℕ
+  codes = map coded groups
+
+  size-codes : length (string_of w codes) ≡ length groups * w
+  size-codes = length-string w codes ∙ ap (λ (n : ℕ). n * w) (length-map coded groups)
+
+  size-all : length (string_of w (codes ++ last)) ≡ (length groups + length last) * w
+  size-all = rw (string-append w codes last, length-append) (omega (arith, size-codes, length-string w last, add-mul (length groups) (length last) w))
+
+  module _ {p : Pen} {place : OctetPlace} (e : p ≡ fresh place) {octets : List ℕ} (room : place.0 + rounded_up ((length groups + length last) * w) ≤ length octets) where
+    pub codes-ready : Ready p (length groups * w) octets
+    codes-ready = fresh-ready e (length groups * w) (omega (arith, add-mul (length groups) (length last) w))
+
+    module _ {octets' : List ℕ} {q : Pen} (m : Moved p (string_of w codes) octets octets' q) where
+      pub last-ready : Ready q (length last * w) octets'
+      last-ready = part-ready e m (length last * w) (omega (arith, size-codes, add-mul (length groups) (length last) w))
+
+      module _ {octets'' : List ℕ} {r : Pen} (n : Moved q (string_of w last) octets' octets'' r) where
+        all-moved : Moved p (string_of w (codes ++ last)) octets octets'' r
+        all-moved = rw (string-append w codes last) (moved_then m n)
+
+        pub all_ready : Ready r 0 octets''
+        all_ready = part-ready e all-moved 0 (omega (arith, size-all))
+
+        pub all_done : ((k : ℕ) → get_or octets k 0 < 256) → {written : List ℕ} → Finished r octets'' written → written ≡ sets octets place.0 (padded (string_of w (codes ++ last)))
+        all_done below f = part-done e all-moved (omega (arith, size-all)) below f

@@ -1,5 +1,4 @@
-pub mod Puts
-pub mod Aligned
-pub mod Values
-pub mod Codings
-pub mod Payload
+mod Codes
+mod Values
+mod Aligned
+mod Payload

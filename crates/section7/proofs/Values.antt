@@ -1,138 +1,110 @@
 -- The values of groups, group after group. Assumes nothing.
-use mathlib.Core.Path.{◌≡◌, refl, sym, ap, ap₂, ◌∙◌}
+use Rattle.std.proofs.Common.{◌≡◌, ℕ, suc, ◌+◌, ◌-◌, ◌*◌, ◌^◌, ◌<◌, ◌≤◌, length, get_or, take, refl, sym, ap, ap₂, ◌∙◌, arith}
 use mathlib.Core.List.{List, [], ◌∷◌, ◌++◌, map, map-append, flat_map, append-nil}
-use Prim.Native.Nat.{ℕ, zero, suc, ◌+◌, ◌-◌, ◌*◌, ◌^◌, ◌≤◌, ◌<◌}
-use native.Mathlib.Numerals.{add-one}
-use native.Mathlib.Omega.{arith}
-use lib.ListN.{length, get_or, length-append}
-use Rattle.format.specs.Lists.{listed, total, least}
-use Rattle.format.specs.Bits.{string_of, rounded_up}
-use Rattle.format.specs.Grouping.{width_of}
+use Rattle.std.proofs.lemmas.List.{length-map, length-append, length-take, get_or-take, take_more, take_all}
+use Rattle.std.proofs.lemmas.List.Sums.{fold_more, sum_by-cons, sum_by_more_le}
+use Rattle.format.specs.Bits.{string_of}
 use Rattle.format.specs.Packing.{value_string}
 use Rattle.format.specs.declared.Group.{Group}
-use Rattle.format.specs.declared.OctetPlace.{OctetPlace}
-use Rattle.laws.specs.Lists.{length-map, listed_more, total-next, total-upto}
+use Rattle.laws.specs.Lists.{get_or-listed}
 use Rattle.laws.specs.Strings.{length-string}
 use Rattle.laws.specs.Stores.{flat_append}
-use Rattle.laws.specs.Groups.{group_in, groups_in, own_numbers, own_groups, RecordOf, Sound, length-own, value_low, value-fits, values_listed, width-upto}
+use Rattle.laws.specs.Groups.{own_numbers, own_groups, RecordOf, length-own, value_low, value-fits, values_listed, width-upto}
 use Rattle.writer.specs.Pen.{Ready, Moved}
 use Rattle.writer.specs.declared.Pen.{Pen}
-use Rattle.writer.proofs.Pens.{fresh-ready, moved_none, moved_then, moved_ready}
-use Rattle.section7.specs.Parts.{values_of, group_bits, FewBits, Countable, Begun}
-use Rattle.section7.proofs.Aligned.{begun}
-use Rattle.section7.proofs.Puts.{Putting, put-start, put-ready, put-end}
-
--- ---- their bits
-
-module _ {octets : List ℕ} {count : ℕ} (h : Countable octets count) {k : ℕ} (l : k < count) {r : Group} (e : r ≡ group_in octets k) where
-  pub bits-group : FewBits r
-  bits-group = rw e (h.each k l)
-
-module _ (octets : List ℕ) where
-  pub bits-next : (k : ℕ) {bits more : ℕ} {r : Group} → bits ≡ total k (λ i. group_bits (group_in octets i)) → r ≡ group_in octets k → more ≡ group_bits r
-      → bits + more ≡ total (k + 1) (λ i. group_bits (group_in octets i))
-  bits-next k b e m = ap₂ (λ (x y : ℕ). x + y) b (m ∙ ap (λ (r : Group). group_bits r) e) ∙ sym (total-next k (λ i. group_bits (group_in octets i)))
-
-  pub bits-all : (k : ℕ) {count bits : ℕ} → k ≤ count → count ≤ k → bits ≡ total k (λ i. group_bits (group_in octets i)) → bits ≡ total count (λ i. group_bits (group_in octets i))
-  bits-all k {count} l m e = let d : k ≡ count = omega arith in rw d at e
+use Rattle.writer.proofs.Pens.{moved_then, moved_ready}
+use Rattle.writer.proofs.Jobs.{number-ready, number-moved}
+use Rattle.coding.specs.Codes.{IsAt, Recorded}
+use Rattle.section7.specs.Parts.{values_of, group_bits, value_bits, Countable}
 
 -- ---- a group
 
 module _ {numbers : List ℕ} {r : Group} (h : RecordOf numbers r) where
-  -- the string of its values, as it is put
-  pub values-are : values_of (own_numbers numbers r) ≡ string_of r.width (listed r.length (λ i. get_or numbers (r.start + i) 0 - r.least))
-  values-are = rw (← h.least, ← h.width, values_listed h)
+  -- its values, as they are put
+  abbrev values : List ℕ
+  values = map (λ n. n - r.least) (own_numbers numbers r)
 
-  size-values : length (values_of (own_numbers numbers r)) ≡ group_bits r
-  size-values =
-      let own = own_numbers numbers r in
-      length-string (width_of own) (map (λ number. number - least own) own)
-      ∙ ap₂ (λ (m w : ℕ). m * w) (length-map (λ (number : ℕ). number - least own) own ∙ length-own h) (sym h.width)
+  count-values : length values ≡ r.length
+  count-values = length-map (own_numbers numbers r) (λ n. n - r.least) ∙ length-own h
 
-  -- as the code goes through them, its own names for the record's numbers
-  module _ {start long width : ℕ} (es : start ≡ r.start) (el : long ≡ r.length) (ew : width ≡ r.width) where
-    abbrev value : ℕ → ℕ
-    value i = get_or numbers (start + i) 0 - r.least
+  value-at : (k : ℕ) → k < r.length → get_or values k 0 ≡ get_or numbers (r.start + k) 0 - r.least
+  value-at k l = ap (λ (xs : List ℕ). get_or xs k 0) (values_listed h) ∙ get_or-listed r.length _ 0 k l
 
-    pub values-end : {k : ℕ} {p q : Pen} {octets octets' : List ℕ} → Putting width value long k p octets octets' q → long ≤ k → Moved p (values_of (own_numbers numbers r)) octets octets' q
-    values-end x l = rw values-are (rw (es, el, ew) at (put-end x l))
+  values-are : string_of r.width values ≡ values_of (own_numbers numbers r)
+  values-are = rw (h.least, h.width)
 
-    module _ {k : ℕ} (l : k < long) {x : ℕ} (ex : x ≡ get_or numbers (start + k) 0) where
-      pub value-least : r.least ≤ x
-      value-least = rw (ex, es) (value_low h k (omega arith))
+  pub size-values : length (values_of (own_numbers numbers r)) ≡ group_bits r
+  size-values = ap length (sym values-are) ∙ length-string r.width values ∙ ap (λ (m : ℕ). m * r.width) count-values
 
-      pub value-narrow : {y : ℕ} → y ≡ x - r.least → y < 2 ^ width
-      value-narrow ey = rw (ey, ex, es, ew) (value-fits h k (omega arith))
+  module _ (k : ℕ) (l : k < r.length) {x : ℕ} (ex : x ≡ get_or numbers (r.start + k) 0) where
+    pub value-least : r.least ≤ x
+    value-least = rw ex (value_low h k l)
 
-module _ {l w long width : ℕ} (el : long ≡ l) (ew : width ≡ w) {p : Pen} {octets : List ℕ} (ready : Ready p (l * w) octets) where
-  pub values-start : (value : ℕ → ℕ) → Putting width value long 0 p octets octets p
-  values-start value = put-start width value long (rw (el, ew) ready)
+    pub value-narrow : x - r.least < 2 ^ r.width
+    value-narrow = rw ex (value-fits h k l)
 
-  pub values-ready : {value : ℕ → ℕ} {k : ℕ} {octets' : List ℕ} {q : Pen} → Putting width value long k p octets octets' q → k < long → Ready q width octets'
-  values-ready x m = put-ready x (rw (el, ew) ready) m
+    module _ {p q : Pen} {octets octets' : List ℕ} (m : Moved p (string_of r.width (take k values)) octets octets' q) where
+      pub value-ready : Ready p (group_bits r) octets → Ready q r.width octets'
+      value-ready ready = number-ready r.width values k (rw count-values l) (rw count-values ready) m
 
-pub value-is : {x y : ℕ} (numbers : List ℕ) (i least : ℕ) → y ≡ x - least → x ≡ get_or numbers i 0 → y ≡ get_or numbers i 0 - least
-value-is numbers i least ey ex = ey ∙ rw ex
+      pub value-moved : {s : Pen} {octets'' : List ℕ} → Moved q (string_of r.width ((x - r.least) ∷ [])) octets' octets'' s → Moved p (string_of r.width (take (k + 1) values)) octets octets'' s
+      value-moved n = number-moved r.width values k (rw count-values l) m (rw ex (sym (value-at k l))) n
+
+  pub values-moved : (k : ℕ) → r.length ≤ k → {p q : Pen} {octets octets' : List ℕ} → Moved p (string_of r.width (take k values)) octets octets' q
+      → Moved p (values_of (own_numbers numbers r)) octets octets' q
+  values-moved k l m = rw (← values-are) (rw (take_all k values (omega (arith, count-values))) at m)
+
+-- ---- their bits
+
+module _ (groups : List Group) (k : ℕ) {g : Group} (l : k < length groups) (e : IsAt groups k g) where
+  pub bits-next : {bits more : ℕ} → bits ≡ value_bits (take k groups) → more ≡ group_bits g → bits + more ≡ value_bits (take (k + 1) groups)
+  bits-next eb em = rw (eb, em) (ap (λ (h : Group). value_bits (take k groups) + group_bits h) (e g) ∙ sym (fold_more (λ a x. a + group_bits x) 0 groups k g l))
+
+pub bits-all : (groups : List Group) (k : ℕ) {bits : ℕ} → length groups ≤ k → bits ≡ value_bits (take k groups) → bits ≡ value_bits groups
+bits-all groups k l e = e ∙ ap value_bits (take_all k groups l)
 
 -- ---- group after group
 
-module _ (numbers octets : List ℕ) where
-  abbrev firsts : ℕ → List ℕ
-  firsts k = value_string (own_groups numbers (groups_in octets k))
+module _ (numbers : List ℕ) where
+  abbrev string : List Group → List ℕ
+  string groups = value_string (own_groups numbers groups)
 
-  values-more : (k : ℕ) → firsts (k + 1) ≡ firsts k ++ values_of (own_numbers numbers (group_in octets k))
+  string-more : (groups : List Group) (k : ℕ) {g : Group} → k < length groups → IsAt groups k g → string (take (k + 1) groups) ≡ string (take k groups) ++ values_of (own_numbers numbers g)
   unfolding value_string flat_map
-  values-more k =
-      ap (λ (rs : List Group). value_string (own_groups numbers rs)) (listed_more k (group_in octets))
-      ∙ ap value_string (map-append (own_numbers numbers) (groups_in octets k) (group_in octets k ∷ []))
-      ∙ flat_append values_of (own_groups numbers (groups_in octets k)) (own_numbers numbers (group_in octets k) ∷ [])
-      ∙ ap (λ (l : List ℕ). firsts k ++ l) (append-nil (values_of (own_numbers numbers (group_in octets k))))
+  string-more groups k {g} l e =
+      ap string (take_more groups k g l ∙ ap (λ (h : Group). take k groups ++ (h ∷ [])) (sym (e g)))
+      ∙ ap value_string (map-append (own_numbers numbers) (take k groups) (g ∷ []))
+      ∙ flat_append values_of (own_groups numbers (take k groups)) (own_numbers numbers g ∷ [])
+      ∙ ap (λ (s : List ℕ). string (take k groups) ++ s) (append-nil (values_of (own_numbers numbers g)))
 
-module _ {numbers octets : List ℕ} {count : ℕ} (s : Sound numbers octets count) where
-  pub list-countable : Countable octets count
-  list-countable = record {
-    few = s.few;
-    there = s.there;
-    each = λ k l. record { short = omega (arith, (s.each k l).within, s.short); narrow = width-upto (s.each k l) 32 (omega (arith, s.small)) };
+  pub size-string : (groups : List Group) → ((d : Group) (k : ℕ) → k < length groups → RecordOf numbers (get_or groups k d)) → length (string groups) ≡ value_bits groups
+  unfolding value_string flat_map
+  size-string [] each = refl
+  size-string (g ∷ groups) each =
+      length-append (values_of (own_numbers numbers g)) (string groups)
+      ∙ ap₂ (λ (m n : ℕ). m + n) (size-values (each g 0 (omega arith))) (size-string groups (λ d k l. each d (suc k) (omega arith)))
+      ∙ sym (sum_by-cons group_bits g groups)
+
+module _ {numbers : List ℕ} {groups : List Group} (h : Recorded numbers groups) where
+  pub countable : Countable groups
+  countable = record {
+    few = h.few;
+    each = λ k g l e. let r = h.each g k l in rw (e g) (record { short = omega (arith, r.within, h.short); narrow = width-upto r 32 (omega (arith, h.small)) });
   }
 
-  size-first : (k : ℕ) → k ≤ count → length (firsts numbers octets k) ≡ total k (λ i. group_bits (group_in octets i))
-  unfolding listed value_string flat_map total
-  size-first zero l = refl
-  size-first (suc k) l =
-      let more = values_of (own_numbers numbers (group_in octets k)) in
-      ap (λ (n : ℕ). length (firsts numbers octets n)) (sym (add-one k)) ∙ ap length (values-more numbers octets k) ∙ length-append (firsts numbers octets k) more
-      ∙ ap₂ (λ (m n : ℕ). m + n) (size-first k (omega arith)) (size-values (s.each k (omega arith)))
+  module _ (k : ℕ) (l : k < length groups) {g : Group} (e : IsAt groups k g) where
+    pub group-recorded : RecordOf numbers g
+    group-recorded = rw (← e g) at (h.each g k l)
 
-  pub size-all : length (firsts numbers octets count) ≡ total count (λ i. group_bits (group_in octets i))
-  size-all = size-first count (omega arith)
-
-  module _ {k : ℕ} (l : k < count) {r : Group} (e : r ≡ group_in octets k) where
-    pub group-valued : RecordOf numbers r
-    group-valued = rw e (s.each k l)
-
-    pub group-few : FewBits r
-    group-few = bits-group list-countable l e
-
-    module _ {p q : Pen} {payload payload' : List ℕ} (m : Moved p (firsts numbers octets k) payload payload' q) where
-      pub group-ready : Ready p (total count (λ i. group_bits (group_in octets i))) payload → Ready q (group_bits r) payload'
+    module _ {p q : Pen} {payload payload' : List ℕ} (m : Moved p (string numbers (take k groups)) payload payload' q) where
+      pub group-ready : Ready p (value_bits groups) payload → Ready q (group_bits g) payload'
       group-ready ready =
-          let bits : ℕ → ℕ = λ i. group_bits (group_in octets i) in
-          let n : k + 1 + (count - (k + 1)) ≡ count = omega arith in
-          let upto : total (k + 1) bits ≤ total count bits = rw n at (total-upto (k + 1) (count - (k + 1)) bits) in
-          let here : group_bits r ≡ bits k = ap (λ (g : Group). group_bits g) e in
-          moved_ready m (group_bits r) ready (omega (arith, size-first k (omega arith), total-next k bits, upto, here))
+          let size = size-string numbers (take k groups) (λ d i n. let j : i < k = omega (arith, length-take k groups) in rw (get_or-take k groups i d j) (h.each d i (omega arith))) in
+          moved_ready m (group_bits g) ready (omega (arith, size, rw (← e g) at (sum_by_more_le group_bits groups k g l)))
 
-      pub group-moved : {q' : Pen} {payload'' : List ℕ} → Moved q (values_of (own_numbers numbers r)) payload' payload'' q' → Moved p (firsts numbers octets (k + 1)) payload payload'' q'
-      group-moved n = rw (values-more numbers octets k) (moved_then m (rw e at n))
+      pub group-moved : {s : Pen} {payload'' : List ℕ} → Moved q (values_of (own_numbers numbers g)) payload' payload'' s → Moved p (string numbers (take (k + 1) groups)) payload payload'' s
+      group-moved n = rw (string-more numbers groups k l e) (moved_then m n)
 
-  -- of no group, and of all
-  module _ {p : Pen} {place : OctetPlace} (e : p ≡ record { place = place; number = 0; pending = 0 }) {payload : List ℕ}
-      (room : place.0 + rounded_up (total count (λ i. group_bits (group_in octets i))) ≤ length payload) where
-    pub values-none : Moved p (firsts numbers octets 0) payload payload p
-    unfolding listed value_string flat_map
-    values-none = moved_none (fresh-ready e _ room)
-
-    pub values-begun : {k : ℕ} → k ≤ count → count ≤ k → {payload' : List ℕ} {q : Pen} → Moved p (firsts numbers octets k) payload payload' q → ((j : ℕ) → get_or payload j 0 < 256)
-        → Begun place (firsts numbers octets count) payload payload' q
-    values-begun {k} l m x h = let d : k ≡ count = omega arith in begun e (rw d at x) size-all room h
+  pub groups-moved : (k : ℕ) → length groups ≤ k → {p q : Pen} {payload payload' : List ℕ} → Moved p (string numbers (take k groups)) payload payload' q
+      → Moved p (string numbers groups) payload payload' q
+  groups-moved k l m = rw (take_all k groups l) at m

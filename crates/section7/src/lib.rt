@@ -1,260 +1,180 @@
-// The payload of a packing, after the Rust's `write_section7`: the codes of the groups in a lent list, and their values.
+// The payload of a packing, after the Rust's `write_section7`: the codes of the groups, and their values.
 #![tactic(auto)]
 
-ghost use Rattle.std.specs.Prelude.{◌≡◌, ◌∷◌, [], ◌++◌, ◌+◌, ◌*◌, ◌-◌, ◌<◌, ◌≤◌, length};
+ghost use Rattle.std.specs.Prelude.{◌≡◌, map, ◌++◌, false, leb, ◌+◌, ◌*◌, ◌^◌, ◌<◌, ◌≤◌, length};
 ghost use Rattle.std.proofs.lemmas.List.Edits.{sets};
-ghost use Rattle.format.specs.Lists.{total, ◌over◌};
+ghost use Rattle.format.specs.Lists.{any_of};
 ghost use Rattle.format.specs.Bits.{string_of, rounded_up, padded};
-ghost use Rattle.format.specs.Layout.{numbers_in};
 ghost use Rattle.format.specs.Refusals.{limit, left};
-ghost use Rattle.format.specs.Unpacking.{places_of};
 ghost use Rattle.format.specs.Packing.{value_string, template_of, payload_of};
-ghost use Rattle.laws.specs.Groups.{group_in, groups_in, own_numbers, own_groups, RecordOf, Sound};
+ghost use Rattle.laws.specs.Groups.{own_numbers, own_groups, RecordOf};
 ghost use Rattle.writer.specs.Pen.{Ready, Moved};
-ghost use Rattle.numbers.specs.Records.{coded_number};
-ghost use Rattle.section7.specs.Parts.{code_of, codes_by, references_coding, widths_coding, lengths_coding, values_of, group_bits, Begun, Codable, FewBits, Countable, payload_lent};
+ghost use Rattle.coding.specs.Codes.{Recorded};
+ghost use Rattle.section7.specs.Parts.{code_of, Codable, values_of, group_bits, value_bits, FewBits, Countable, payload_lent};
 
-use format::{Group, OctetPlace, Places, Refusal, Stored, Template};
-use numbers::Field;
+use coding::Records;
+use format::{Group, OctetPlace, Refusal, Template};
+use numbers::Numbers;
 use writer::Pen;
 
-// How a field codes a number of each group: its difference from the reference, in steps of the increment, in so many bits.
+// What a part of the payload codes of a group. A closure for each would be shorter; its proof does not close, since the check
+// counts no answer to what a call with a closure asks.
 #[derive(Clone, Copy)]
-pub struct FieldCoding {
-    pub field: Field,
-    pub reference: u32,
-    pub increment: u32,
-    pub bits: usize,
+pub enum Coding {
+    // The least number.
+    References,
+
+    // The width less the width reference.
+    Widths(u8),
+
+    // The length less the length reference, in steps of the increment.
+    Lengths(u32, u8),
 }
 
-fn code_of(coding: FieldCoding, group: Group) -> u64
-    requires { (0 < coding.increment) × (coding.reference ≤ coded_number coding.field group) }
-    ensures { result ≡ code_of coding group }
-{
-    let field = coding.field;
-    let number = numbers::coded_number(group, field);
-    places::grown((number - coding.reference) / coding.increment)
+impl Coding {
+    ghost use Rattle.section7.specs.Parts.{code_of, CodedBy};
+
+    fn code_of(self, group: Group) -> u32
+        requires { CodedBy self group }
+        ensures { result ≡ code_of self group }
+    {
+        match self {
+            Coding::References => group.least,
+            Coding::Widths(reference) => group.width - reference as u32,
+            Coding::Lengths(reference, increment) => (group.length - reference) / increment as u32,
+        }
+    }
 }
 
-// The codes of the first groups, from an octet on.
-fn put_codes(
-    coding: FieldCoding,
-    groups: &[u8],
-    count: usize,
-    place: OctetPlace,
-    payload: &mut [u8],
-) -> Pen
-    requires { Codable coding groups.now count × (0 < coding.bits) × (place.0 + rounded_up (count * coding.bits) ≤ length payload.old) }
-    ensures { Begun place (string_of coding.bits (codes_by coding (groups_in groups.now count))) payload.old payload.new result }
+// A code of each group.
+fn put_codes(coding: Coding, bits: usize, records: &Records, pen: Pen, payload: &mut [u8]) -> Pen
+    requires codes { Codable coding bits records.now }
+    requires ready { Ready pen (length records.now * bits) payload.old }
+    ensures { Moved pen (string_of bits (map (code_of coding) records.now)) payload.old payload.new result }
 {
-    let mut here = writer::pen_at(place);
-    let mut k = 0usize;
-    while k < count {
-        let code = code_of(coding, layout::group_in(groups, k));
-        here = writer::put(here, code, coding.bits, payload);
-        k += 1;
+    let mut here = pen;
+    for k in 0..records.len() {
+        let code = coding.code_of(records.at(k));
+        here = here.put(code as u64, bits, payload);
     }
     here
 }
 
-// "each starting on an octet": a code of each group.
+// "each starting on an octet": a code of each group, and the numbers that stand behind them.
 fn write_codes(
-    coding: FieldCoding,
-    groups: &[u8],
-    count: usize,
+    coding: Coding,
+    bits: usize,
+    records: &Records,
+    behind: &[u32],
     place: OctetPlace,
     payload: &mut [u8],
 )
-    requires { Codable coding groups.now count × (place.0 + rounded_up (count * coding.bits) ≤ length payload.old) }
-    ensures { payload.new ≡ sets payload.old place.0 (padded (string_of coding.bits (codes_by coding (groups_in groups.now count)))) }
+    requires codes { 0 < bits → Codable coding bits records.now × (any_of (leb (2 ^ bits)) behind.now ≡ false) }
+    requires room { place.0 + rounded_up ((length records.now + length behind.now) * bits) ≤ length payload.old }
+    ensures { payload.new ≡ sets payload.old place.0 (padded (string_of bits (map (code_of coding) records.now ++ behind.now))) }
 {
-    if coding.bits == 0 {
+    if bits == 0 {
         return;
     }
-    let pen = put_codes(coding, groups, count, place, payload);
-    writer::finish(pen, payload);
-}
-
-// "The last length code is written 0."
-fn put_lengths(
-    coding: FieldCoding,
-    groups: &[u8],
-    count: usize,
-    place: OctetPlace,
-    payload: &mut [u8],
-) -> Pen
-    requires { (0 < count) × Codable coding groups.now (count - 1) × (0 < coding.bits) × (place.0 + rounded_up (count * coding.bits) ≤ length payload.old) }
-    ensures { Begun place (string_of coding.bits (codes_by coding (groups_in groups.now (count - 1)) ++ (0 ∷ []))) payload.old payload.new result }
-{
-    let pen = put_codes(coding, groups, count - 1, place, payload);
-    writer::put(pen, 0, coding.bits, payload)
-}
-
-// "each starting on an octet": the length codes.
-fn write_lengths(
-    coding: FieldCoding,
-    groups: &[u8],
-    count: usize,
-    place: OctetPlace,
-    payload: &mut [u8],
-)
-    requires { (0 < count) × Codable coding groups.now (count - 1) × (place.0 + rounded_up (count * coding.bits) ≤ length payload.old) }
-    ensures { payload.new ≡ sets payload.old place.0 (padded (string_of coding.bits (codes_by coding (groups_in groups.now (count - 1)) ++ (0 ∷ [])))) }
-{
-    if coding.bits == 0 {
-        return;
-    }
-    let pen = put_lengths(coding, groups, count, place, payload);
-    writer::finish(pen, payload);
+    let pen = put_codes(coding, bits, records, Pen::at(place), payload);
+    let pen = pen.put_all(behind, bits, payload);
+    pen.finish(payload);
 }
 
 // The values of a group: its numbers less the least.
-fn put_group(numbers: &[u8], group: Group, pen: Pen, payload: &mut [u8]) -> Pen
-    requires record_of { RecordOf (numbers_in numbers.now) group × FewBits group }
+fn put_group(numbers: &Numbers, group: Group, pen: Pen, payload: &mut [u8]) -> Pen
+    requires recorded { RecordOf numbers.now group × FewBits group }
     requires ready { Ready pen (group_bits group) payload.old }
-    ensures { Moved pen (values_of (own_numbers (numbers_in numbers.now) group)) payload.old payload.new result }
+    ensures { Moved pen (values_of (own_numbers numbers.now group)) payload.old payload.new result }
 {
-    let width = places::size(group.width);
-    let start = places::size(group.start);
-    let length = places::size(group.length);
+    let start = group.start as usize;
+    let width = group.width as usize;
     let mut here = pen;
-    let mut k = 0usize;
-    while k < length {
-        let value = numbers::number_at(numbers, start + k) - group.least;
-        here = writer::put(here, places::grown(value), width, payload);
-        k += 1;
+    for k in 0..group.length as usize {
+        let value = numbers.at(start + k) - group.least;
+        here = here.put(value as u64, width, payload);
     }
     here
 }
 
-// "Values follow group after group with no alignment between them.": those of the first groups, from an octet on.
-fn put_values(
-    numbers: &[u8],
-    groups: &[u8],
-    count: usize,
-    place: OctetPlace,
-    payload: &mut [u8],
-) -> Pen
-    requires { Sound (numbers_in numbers.now) groups.now count × (place.0 + rounded_up (total count (λ k. group_bits (group_in groups.now k))) ≤ length payload.old) }
-    ensures { Begun place (value_string (own_groups (numbers_in numbers.now) (groups_in groups.now count))) payload.old payload.new result }
+// "Values follow group after group with no alignment between them."
+fn put_values(numbers: &Numbers, records: &Records, pen: Pen, payload: &mut [u8]) -> Pen
+    requires recorded { Recorded numbers.now records.now }
+    requires ready { Ready pen (value_bits records.now) payload.old }
+    ensures { Moved pen (value_string (own_groups numbers.now records.now)) payload.old payload.new result }
 {
-    let mut here = writer::pen_at(place);
-    let mut k = 0usize;
-    while k < count {
-        here = put_group(numbers, layout::group_in(groups, k), here, payload);
-        k += 1;
+    let mut here = pen;
+    for k in 0..records.len() {
+        here = put_group(numbers, records.at(k), here, payload);
     }
     here
 }
 
 // "each starting on an octet": the values.
-fn write_values(numbers: &[u8], groups: &[u8], count: usize, place: OctetPlace, payload: &mut [u8])
-    requires { Sound (numbers_in numbers.now) groups.now count × (place.0 + rounded_up (total count (λ k. group_bits (group_in groups.now k))) ≤ length payload.old) }
-    ensures { payload.new ≡ sets payload.old place.0 (padded (value_string (own_groups (numbers_in numbers.now) (groups_in groups.now count)))) }
+fn write_values(numbers: &Numbers, records: &Records, place: OctetPlace, payload: &mut [u8])
+    requires recorded { Recorded numbers.now records.now }
+    requires room { place.0 + rounded_up (value_bits records.now) ≤ length payload.old }
+    ensures { payload.new ≡ sets payload.old place.0 (padded (value_string (own_groups numbers.now records.now))) }
 {
-    let end = put_values(numbers, groups, count, place, payload);
-    writer::finish(end, payload);
-}
-
-fn bits_of(group: Group) -> usize
-    requires { FewBits group }
-    ensures { (result ≡ group_bits group) × (result ≤ limit * 32) }
-{
-    places::times(places::size(group.length), places::size(group.width))
+    let pen = put_values(numbers, records, Pen::at(place), payload);
+    pen.finish(payload);
 }
 
 // The bits of all values.
-fn value_bits(groups: &[u8], count: usize) -> usize
-    requires { Countable groups.now count }
-    ensures { (result ≡ total count (λ k. group_bits (group_in groups.now k))) × (result ≤ count * (limit * 32)) }
+fn value_bits(records: &Records) -> usize
+    requires { Countable records.now }
+    ensures { (result ≡ value_bits records.now) × (result ≤ length records.now * (limit * 32)) }
 {
-    let mut bits = 0usize;
-    let mut k = 0usize;
-    while k < count {
-        bits += bits_of(layout::group_in(groups, k));
-        k += 1;
+    let mut bits = 0;
+    for k in 0..records.len() {
+        let group = records.at(k);
+        bits += places::times(group.length as usize, group.width as usize);
     }
     bits
 }
 
-fn references_coding(template: Template) -> FieldCoding
-    ensures { result ≡ references_coding template }
-{
-    FieldCoding {
-        field: Field::References,
-        reference: 0,
-        increment: 1,
-        bits: places::small(template.width),
-    }
-}
-
-fn widths_coding(template: Template) -> FieldCoding
-    ensures { result ≡ widths_coding template }
-{
-    FieldCoding {
-        field: Field::Widths,
-        reference: template.widths.reference as u32,
-        increment: 1,
-        bits: places::small(template.widths.bits),
-    }
-}
-
-fn lengths_coding(template: Template) -> FieldCoding
-    ensures { result ≡ lengths_coding template }
-{
-    FieldCoding {
-        field: Field::Lengths,
-        reference: template.lengths.reference,
-        increment: template.lengths.increment as u32,
-        bits: places::small(template.lengths.bits),
-    }
-}
-
-// "each starting on an octet: [..] group references at the number width, width codes, length codes, values", at their places.
-fn write_parts(
-    template: Template,
-    places: Places,
-    numbers: &[u8],
-    groups: &[u8],
-    count: usize,
-    payload: &mut [u8],
-)
-    requires sound { Sound (numbers_in numbers.now) groups.now count × (template ≡ template_of (numbers_in numbers.now) (own_groups (numbers_in numbers.now) (groups_in groups.now count))) }
-    requires places_value { (places ≡ places_of 0 template (total count (λ k. group_bits (group_in groups.now k)))) × (places.end.0 ≤ length payload.old) }
-    ensures { payload.new ≡ payload_of template (own_groups (numbers_in numbers.now) (groups_in groups.now count)) over payload.old }
-{
-    let references = places.references;
-    let widths = places.widths;
-    let lengths = places.lengths;
-    let values = places.values;
-    write_codes(
-        references_coding(template),
-        groups,
-        count,
-        references,
-        payload,
-    );
-    write_codes(widths_coding(template), groups, count, widths, payload);
-    write_lengths(lengths_coding(template), groups, count, lengths, payload);
-    write_values(numbers, groups, count, values, payload);
-}
-
-// The payload of the groups that the records in a list speak of: its octets, or 10 where it has no room.
+// "each starting on an octet: [..] group references at the number width, width codes, length codes, values": the payload of the
+// groups that the records speak of, or 10 where it has no room.
 pub fn write_section7(
     template: Template,
-    numbers: &[u8],
-    groups: &[u8],
-    count: usize,
+    numbers: &Numbers,
+    records: &Records,
     payload: &mut [u8],
-) -> Stored
-    requires { Sound (numbers_in numbers.now) groups.now count × (template ≡ template_of (numbers_in numbers.now) (own_groups (numbers_in numbers.now) (groups_in groups.now count))) }
-    ensures { left result payload.new ≡ payload_lent (payload_of template (own_groups (numbers_in numbers.now) (groups_in groups.now count))) payload.old }
+) -> Result<OctetPlace, Refusal>
+    requires { Recorded numbers.now records.now × (template ≡ template_of numbers.now (own_groups numbers.now records.now)) }
+    ensures { left result payload.new ≡ payload_lent (payload_of template (own_groups numbers.now records.now)) payload.old }
 {
-    let places = places::parts_of(template, 0, value_bits(groups, count));
-    let end = places.end;
-    if payload.len() < end.0 {
-        return Stored::Refused(Refusal::Room);
+    let places = places::parts_of(template, 0, value_bits(records));
+    if payload.len() < places.end.0 {
+        return Err(Refusal::Room);
     }
-    write_parts(template, places, numbers, groups, count, payload);
-    Stored::Span(end)
+    let widths = template.widths;
+    let lengths = template.lengths;
+    write_codes(
+        Coding::References,
+        template.width as usize,
+        records,
+        &[],
+        places.references,
+        payload,
+    );
+    write_codes(
+        Coding::Widths(widths.reference),
+        widths.bits as usize,
+        records,
+        &[],
+        places.widths,
+        payload,
+    );
+    // "The last length code is written 0."
+    write_codes(
+        Coding::Lengths(lengths.reference, lengths.increment),
+        lengths.bits as usize,
+        &records.but_last(),
+        &[0],
+        places.lengths,
+        payload,
+    );
+    write_values(numbers, records, places.values, payload);
+    Ok(places.end)
 }

@@ -1,23 +1,25 @@
 -- `section7::put_codes` meets its contract. Assumes nothing.
-use native.Mathlib.Omega.{arith}
-use Rattle.writer.proofs.Pens.{fresh-ready}
-use Rattle.section7.proofs.Puts.{put-start, put-ready, put-more}
-use Rattle.section7.proofs.Codings.{code_step, code-low, code_is, code_fits, codes-begun}
-use borrow.Author.Rules.{rules}
+use Rattle.std.proofs.Common.{map, arith}
+use Rattle.writer.proofs.Jobs.{none-moved}
+use Rattle.section7.specs.Parts.{code_of}
+use Rattle.section7.proofs.Codes.{code-ready, code-moved, codes-moved}
 use Rattle.section7.proofs.put_codes.Goals as goal
 
 pub loop-k-init : goal.loop-k-init
-loop-k-init c = (search fresh-ready, search (put-start, fresh-ready))
+loop-k-init c = none-moved c.args.bits (map (code_of c.args.coding) c.args.records.now) c.args.pen c.args.payload.now
 
 pub code_of-code-requires : goal.code_of-code-requires
-code_of-code-requires c = (search code_step, search code-low)
+code_of-code-requires c = c.requires.codes.coded c.loop-k.k _ (omega arith) c.at.ensures
 
-pub put-here-requires : goal.put-here-requires
-put-here-requires c = record { ready = search put-ready; width_bound = (omega arith, search code_fits) }
+pub put-here-requires-clause-ready : goal.put-here-requires-clause-ready
+put-here-requires-clause-ready c = code-ready (code_of c.args.coding) c.args.bits c.args.records.now c.loop-k.k (omega arith) c.loop-k.invariant c.requires.ready
+
+pub put-here-requires-clause-width_bound : goal.put-here-requires-clause-width_bound
+put-here-requires-clause-width_bound c = (c.requires.codes.top, rw c.code_of-code.ensures (c.requires.codes.fit c.loop-k.k _ (omega arith) c.at.ensures))
 
 pub loop-k-preserved : goal.loop-k-preserved
-loop-k-preserved c = (search rules, search (put-more, code_is))
+loop-k-preserved c =
+    code-moved (code_of c.args.coding) c.args.bits c.args.records.now c.loop-k.k (omega arith) c.loop-k.invariant c.at.ensures c.code_of-code.ensures c.put-here.ensures
 
 pub returns : goal.returns
-returns c =
-    codes-begun c.args.coding _ _ c.pen_at-here.ensures c.loop-k.invariant.1 (search rules) (search rules) (λ k. search rules)
+returns c = codes-moved (code_of c.args.coding) c.args.bits c.args.records.now c.loop-k.k (omega arith) c.loop-k.invariant

@@ -1,12 +1,9 @@
--- What the loop of `section7::put_group` keeps, and why it ends: after k turns k values are put. Assumes nothing.
-use Prim.Native.Nat.{◌+◌, ◌-◌}
-use lib.ListN.{get_or}
-use Rattle.format.specs.Layout.{numbers_in}
-use Rattle.section7.proofs.Puts.{Putting}
+-- What the loop of `section7::put_group` keeps: after k turns k values are put. Assumes nothing.
+use Rattle.std.proofs.Common.{◌-◌, map, take}
+use Rattle.format.specs.Bits.{string_of}
+use Rattle.laws.specs.Groups.{own_numbers}
+use Rattle.writer.specs.Pen.{Moved}
 use Rattle.section7.proofs.put_group.Given as goal
 
 abbrev pub invariant-loop-k : goal.invariant-loop-k
-invariant-loop-k l = Putting l.width (λ i. get_or (numbers_in l.numbers) (l.start + i) 0 - l.group.least) l.length l.k l.initial.here l.initial.payload l.payload l.here
-
-abbrev pub decreases-loop-k : goal.decreases-loop-k
-decreases-loop-k l = l.length - l.k
+invariant-loop-k l = Moved l.initial.here (string_of l.width (take l.k (map (λ n. n - l.group.least) (own_numbers l.numbers l.group)))) l.initial.payload l.payload l.here

@@ -1,18 +1,25 @@
 -- `section7::put_values` meets its contract. Assumes nothing.
-use native.Mathlib.Omega.{arith}
-use Rattle.writer.proofs.Pens.{fresh-ready}
-use Rattle.section7.proofs.Values.{group-valued, group-few, group-ready, group-moved, values-none, values-begun}
-use borrow.Author.Rules.{rules}
+use Rattle.std.proofs.Common.{arith}
+use mathlib.Core.List.{flat_map}
+use Rattle.format.specs.Packing.{value_string}
+use Rattle.writer.proofs.Pens.{moved_none}
+use Rattle.section7.proofs.Values.{countable, group-recorded, group-ready, group-moved, groups-moved}
 use Rattle.section7.proofs.put_values.Goals as goal
 
 pub loop-k-init : goal.loop-k-init
-loop-k-init c = (omega arith, search fresh-ready, search values-none)
+unfolding value_string flat_map
+loop-k-init c = moved_none c.args.pen c.args.payload.now
 
 pub put_group-here-requires : goal.put_group-here-requires
-put_group-here-requires c = record { record_of = (search group-valued, search group-few); ready = search group-ready }
+put_group-here-requires c =
+    let h = c.requires.recorded in
+    record {
+      recorded = (group-recorded h c.loop-k.k (omega arith) c.at.ensures, (countable h).each c.loop-k.k _ (omega arith) c.at.ensures);
+      ready = group-ready h c.loop-k.k (omega arith) c.at.ensures c.loop-k.invariant c.requires.ready;
+    }
 
 pub loop-k-preserved : goal.loop-k-preserved
-loop-k-preserved c = (omega arith, search rules, search group-moved)
+loop-k-preserved c = group-moved c.requires.recorded c.loop-k.k (omega arith) c.at.ensures c.loop-k.invariant c.put_group-here.ensures
 
 pub returns : goal.returns
-returns c = values-begun (search rules) c.pen_at-here.ensures (search rules) (search rules) (search rules) c.loop-k.invariant.2 (λ k. search rules)
+returns c = groups-moved c.requires.recorded c.loop-k.k (omega arith) c.loop-k.invariant

@@ -1,21 +1,38 @@
 -- `section7::write_section7` meets its contract. Assumes nothing.
-use native.Mathlib.Omega.{arith}
-use Rattle.section7.proofs.Values.{list-countable}
-use Rattle.section7.proofs.Payload.{passing, payload-refused, payload-written}
-use borrow.Author.Rules.{rules}
+use Rattle.std.proofs.Common.{arith}
+use Rattle.section7.proofs.Values.{countable}
+use Rattle.section7.proofs.Payload.{passing, references-written, widths-written, lengths-written, references-room, widths-room, lengths-room, values-room, payload-refused, payload-written}
 use Rattle.section7.proofs.write_section7.Goals as goal
 
 pub value_bits-requires : goal.value_bits-requires
-value_bits-requires c = search list-countable
+value_bits-requires c = countable c.requires.0
 
 pub parts_of-places-requires : goal.parts_of-places-requires
-parts_of-places-requires c = (search passing, omega arith, omega arith)
+parts_of-places-requires c = let h = c.requires.0 in (passing h c.requires.1, omega arith, omega arith)
 
-pub returns-then-payload-end : goal.returns-then-payload-end
-returns-then-payload-end c = search payload-refused
+pub returns-then-payload-places : goal.returns-then-payload-places
+returns-then-payload-places c = payload-refused c.requires.0 c.requires.1 c.value_bits.ensures.0 c.parts_of-places.ensures c.args.payload.now (omega arith)
 
-pub write_parts-requires : goal.write_parts-requires
-write_parts-requires c = record { sound = (search rules, search rules); places_value = ((cc), search rules) }
+pub write_codes-requires : goal.write_codes-requires
+write_codes-requires c = record {
+  codes = references-written c.requires.0 c.requires.1;
+  room = references-room c.requires.0 c.requires.1 c.value_bits.ensures.0 c.parts_of-places.ensures (omega arith);
+}
+
+pub write_codes-requires-2 : goal.write_codes-requires-2
+write_codes-requires-2 c = record {
+  codes = widths-written c.requires.0 c.requires.1;
+  room = widths-room c.requires.0 c.requires.1 c.value_bits.ensures.0 c.parts_of-places.ensures (omega arith);
+}
+
+pub write_codes-requires-3 : goal.write_codes-requires-3
+write_codes-requires-3 c = record {
+  codes = lengths-written c.requires.0 c.requires.1 c.but_last.ensures;
+  room = lengths-room c.requires.0 c.requires.1 c.value_bits.ensures.0 c.parts_of-places.ensures (omega arith) c.but_last.ensures;
+}
+
+pub write_values-requires-clause-room : goal.write_values-requires-clause-room
+write_values-requires-clause-room c = values-room c.requires.0 c.requires.1 c.value_bits.ensures.0 c.parts_of-places.ensures (omega arith)
 
 pub returns : goal.returns
-returns c = search payload-written
+returns c = payload-written c.requires.0 c.requires.1 c.value_bits.ensures.0 c.parts_of-places.ensures c.args.payload.now (omega arith) c.write_codes.ensures c.write_codes-2.ensures c.but_last.ensures c.write_codes-3.ensures c.write_values.ensures

@@ -1,5 +1,0 @@
--- `section7::references_coding` meets its contract. Assumes nothing.
-use Rattle.section7.proofs.references_coding.Goals as goal
-
-pub returns : goal.returns
-returns c = rw c.small.ensures.0
