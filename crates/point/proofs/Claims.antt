@@ -19,10 +19,6 @@ use Rattle.format.specs.declared.Refusal.TheVariants.{Place}
 use Rattle.format.specs.declared.Template.{Template}
 use Rattle.format.specs.declared.DecodedValue.{DecodedValue}
 use Rattle.format.specs.declared.DecodedValue.TheVariants.{Missing1}
-use Rattle.format.specs.declared.Unpacked.{Unpacked}
-use Rattle.format.specs.declared.Unpacked.TheVariants as unpacked
-use Rattle.format.specs.declared.Picked.{Picked}
-use Rattle.format.specs.declared.Picked.TheVariants as picked
 use Rattle.laws.specs.Accepting.{counted}
 use Rattle.laws.specs.First.{Clear, Giving, outcome, gives-up-to, decides, clears, first-ext, first-joined, tests}
 use Rattle.laws.specs.Points.{size-point, length-points, holder_of, counted_same}
@@ -30,13 +26,15 @@ use Rattle.laws.proofs.Points.{point-own}
 use Rattle.laws.specs.Stores.{flat-cut}
 use Rattle.point.specs.Claims.{octets_at, AsUnpacked, PlaceOfUnpacking, BySection5, Own, Agree, NumberThree}
 use Rattle.point.proofs.Holding.{holds, passes, below}
+use Rattle.std.specs.declared.result.Result.{Result}
+use Rattle.std.specs.declared.result.Result.TheVariants.{Ok, Err}
 
 -- ---- an answer is a point or a refusal, and not both
 
-picked-once : {A : Type 0} {x : Picked} {point : DecodedValue} {r : Refusal} → x ≡ picked.Point point → x ≡ picked.Refused r → A
+picked-once : {A : Type 0} {x : Result DecodedValue Refusal} {point : DecodedValue} {r : Refusal} → x ≡ Ok point → x ≡ Err r → A
 picked-once p q = absurd (let d : ◌≡◌ {A = ℕ} 0 1 = cc in omega arith)
 
-unpacked-once : {A : Type 0} {x : Unpacked} {n : ℕ} {r : Refusal} → x ≡ unpacked.Points n → x ≡ unpacked.Refused r → A
+unpacked-once : {A : Type 0} {x : Result ℕ Refusal} {n : ℕ} {r : Refusal} → x ≡ Ok n → x ≡ Err r → A
 unpacked-once p q = absurd (let d : ◌≡◌ {A = ℕ} 0 1 = cc in omega arith)
 
 -- ---- the place of unpacking
@@ -51,31 +49,31 @@ module _ (place : ℕ) (t : Template) (declared : ℕ) (payload lent : List ℕ)
   abbrev points : List DecodedValue
   points = points_up_to t (said_by 0 t payload) t.groups
 
-  abbrev placed : Picked
-  placed = first picked.Refused (place_refusals place declared) (picked.Point (get_or points place Missing1))
+  abbrev placed : Result DecodedValue Refusal
+  placed = first Err (place_refusals place declared) (Ok (get_or points place Missing1))
 
-  point-first : point52 place t declared payload ≡ first picked.Refused rows placed
+  point-first : point52 place t declared payload ≡ first Err rows placed
   unfolding point52 said_by
-  point-first = first-joined picked.Refused rows (place_refusals place declared) (picked.Point (get_or points place Missing1))
+  point-first = first-joined Err rows (place_refusals place declared) (Ok (get_or points place Missing1))
 
   roomy : Clear (room_refusals point_size lent declared)
   roomy = omega (arith, tests)
 
   -- unpacking refuses as these rows do, since there is room
   unpack-first : unpack52 t declared payload lent
-      ≡ first (λ r. left (unpacked.Refused r) lent) rows (left (unpacked.Points declared) (flat_map point_octets points over lent))
+      ≡ first (λ r. left (Err r) lent) rows (left (Ok declared) (flat_map point_octets points over lent))
   unfolding unpack52 said_by
   unpack-first =
-      first-joined (λ r. left (unpacked.Refused r) lent) rows (room_refusals point_size lent declared) _
-      ∙ ap (first (λ r. left (unpacked.Refused r) lent) rows) (sym (clears (λ r. left (unpacked.Refused r) lent) (room_refusals point_size lent declared) _ roomy))
+      first-joined (λ r. left (Err r) lent) rows (room_refusals point_size lent declared) _
+      ∙ ap (first (λ r. left (Err r) lent) rows) (sym (clears (λ r. left (Err r) lent) (room_refusals point_size lent declared) _ roomy))
 
   -- one of these rows refuses both
   module _ (g : Giving rows) where
-    point-given : point52 place t declared payload ≡ picked.Refused g.refusal
-    point-given = point-first ∙ sym (decides picked.Refused g.refusal rows placed g.given)
+    point-given : point52 place t declared payload ≡ Err g.refusal
+    point-given = point-first ∙ sym (decides Err g.refusal rows placed g.given)
 
-    unpack-given : (unpack52 t declared payload lent).answer ≡ unpacked.Refused g.refusal
-    unpack-given = ap (λ (l : Left Unpacked). l.answer) (unpack-first ∙ sym (decides (λ r. left (unpacked.Refused r) lent) g.refusal rows _ g.given))
+    unpack-given : (unpack52 t declared payload lent).answer ≡ Err g.refusal
+    unpack-given = ap (λ (l : Left (Result ℕ Refusal)). l.answer) (unpack-first ∙ sym (decides (λ r. left (Err r) lent) g.refusal rows _ g.given))
 
     low : refusal_number g.refusal ≤ 9
     low = gives-up-to 9 (refusal_number g.refusal) rows (omega arith) g.given
@@ -85,7 +83,7 @@ module _ (place : ℕ) (t : Template) (declared : ℕ) (payload lent : List ℕ)
         let p = point-given in
         let u = unpack-given in
         record {
-          refused = λ r l. (λ q. (let same : g.refusal ≡ r = cc in u ∙ ap unpacked.Refused same), λ q. (let same : g.refusal ≡ r = cc in p ∙ ap picked.Refused same));
+          refused = λ r l. (λ q. (let same : g.refusal ≡ r = cc in u ∙ ap Err same), λ q. (let same : g.refusal ≡ r = cc in p ∙ ap Err same));
           past = (λ q. (let same : g.refusal ≡ Place = cc in absurd (omega (arith, low, ap refusal_number same))), λ q. unpacked-once q.0 u);
           no_other = λ r q. (let same : g.refusal ≡ r = cc in inl (omega (arith, low, ap refusal_number same)));
           same = λ point q. picked-once q p;
@@ -95,26 +93,26 @@ module _ (place : ℕ) (t : Template) (declared : ℕ) (payload lent : List ℕ)
   -- none refuses unpacking
   module _ (clear : Clear rows) where
     point-accepted : point52 place t declared payload ≡ placed
-    point-accepted = point-first ∙ sym (clears picked.Refused rows placed clear)
+    point-accepted = point-first ∙ sym (clears Err rows placed clear)
 
-    unpack-done : unpack52 t declared payload lent ≡ left (unpacked.Points declared) (flat_map point_octets points over lent)
-    unpack-done = unpack-first ∙ sym (clears (λ r. left (unpacked.Refused r) lent) rows _ clear)
+    unpack-done : unpack52 t declared payload lent ≡ left (Ok declared) (flat_map point_octets points over lent)
+    unpack-done = unpack-first ∙ sym (clears (λ r. left (Err r) lent) rows _ clear)
 
-    answer-is : (unpack52 t declared payload lent).answer ≡ unpacked.Points declared
-    answer-is = ap (λ (l : Left Unpacked). l.answer) unpack-done
+    answer-is : (unpack52 t declared payload lent).answer ≡ Ok declared
+    answer-is = ap (λ (l : Left (Result ℕ Refusal)). l.answer) unpack-done
 
     long : length points ≡ declared
     unfolding said_by
     long = length-points t (said_by 0 t payload) t.groups ∙ (counted (kind_refusals t) 0 t declared (length payload) codes clear).count
 
     octets-are : place < declared → octets_at place (unpack52 t declared payload lent).buffer ≡ point_octets (get_or points place Missing1)
-    octets-are l = ap (λ (x : Left Unpacked). octets_at place x.buffer) unpack-done ∙ flat-cut point_octets point_size size-point points _ Missing1 place (omega (arith, long))
+    octets-are l = ap (λ (x : Left (Result ℕ Refusal)). octets_at place x.buffer) unpack-done ∙ flat-cut point_octets point_size size-point points _ Missing1 place (omega (arith, long))
 
-    no_place : declared ≤ place → point52 place t declared payload ≡ picked.Refused Place
+    no_place : declared ≤ place → point52 place t declared payload ≡ Err Place
     unfolding first
     no_place l = point-accepted ∙ rw (le-leb declared place l)
 
-    a-place : place < declared → point52 place t declared payload ≡ picked.Point (get_or points place Missing1)
+    a-place : place < declared → point52 place t declared payload ≡ Ok (get_or points place Missing1)
     unfolding first
     a-place l = point-accepted ∙ rw (lt-leb declared place l)
 
@@ -173,23 +171,22 @@ module _ (place : ℕ) (t : Template) (declared : ℕ) (a b : List ℕ) (agree :
       let counts = passes place t declared a clear in
       let h = holds place t declared a counts.right counts.count counts.few (below place t declared a clear) in
       record {
-        answered = record { point = _; is = sym (clears picked.Refused (rows_in a) _ clear) };
+        answered = record { point = _; is = sym (clears Err (rows_in a) _ clear) };
         among = h.among;
         inside = omega (arith, h.begins, h.ends);
         there = omega (arith, h.begins);
       }
 
-  point-same : Clear (rows_in a) → picked.Point (get_or (points_up_to t (said_by 0 t a) t.groups) place Missing1) ≡ picked.Point (get_or (points_up_to t (said_by 0 t b) t.groups) place Missing1)
+  point-same : Clear (rows_in a) → get_or (points_up_to t (said_by 0 t a) t.groups) place Missing1 ≡ get_or (points_up_to t (said_by 0 t b) t.groups) place Missing1
   point-same clear =
       let o = own clear in
-      ap picked.Point
-      (rw o.there (point-own 0 t a b agree.widths agree.lengths Missing1 _ _ o.among o.inside (agree.reference _ _ o) (agree.bits _ _ o)))
+      rw o.there (point-own 0 t a b agree.widths agree.lengths Missing1 _ _ o.among o.inside (agree.reference _ _ o) (agree.bits _ _ o))
 
   depends : point52 place t declared a ≡ point52 place t declared b
   unfolding point52 said_by
   depends =
-      first-ext picked.Refused (rows_in a) _ _ point-same
-      ∙ ap (λ (rows : List Row). first picked.Refused rows (picked.Point (get_or (points_up_to t (said_by 0 t b) t.groups) place Missing1))) rows_same
+      first-ext Err (rows_in a) _ _ (λ clear. ap Ok (point-same clear))
+      ∙ ap (λ (rows : List Row). first Err rows (Ok (get_or (points_up_to t (said_by 0 t b) t.groups) place Missing1))) rows_same
 
 pub number-three : NumberThree
 number-three = (place-of-unpacking, by-section5, depends)

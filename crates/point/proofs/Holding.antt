@@ -16,7 +16,8 @@ use Rattle.laws.specs.First.{Clear, clear-front, clear_later}
 use Rattle.laws.specs.Points.{points-within, point-placed, point-read, holder_of, Holds, held}
 use Rattle.laws.specs.Small.{NoneWrong, width_low, reference-low, bits-low}
 use Rattle.groups.specs.declared.HolderGroup.{HolderGroup}
-use Rattle.point.specs.Holding.{holder52, Readable, held_point}
+use Rattle.groups.specs.Packed.{Readable, held_point}
+use Rattle.point.specs.Holding.{holder52}
 
 module _ (place : ℕ) (t : Template) (declared : ℕ) (payload : List ℕ) where
   abbrev codes : Codes

@@ -6,7 +6,7 @@ use Prim.Native.Nat.{ℕ}
 use lib.ListN.{length}
 use Rattle.format.specs.Lists.{listed, total, joined, any_of}
 use Rattle.format.specs.Bits.{bit_in, number_of, span_of}
-use Rattle.format.specs.Refusals.{first, unpacked_number}
+use Rattle.format.specs.Refusals.{first, answer_number}
 use Rattle.format.specs.Seen.{refused, number, point, template, picking}
 use Rattle.format.specs.Template.{widths_at, lengths_at, values_at}
 use Rattle.format.specs.Unpacking.{codes_of, reference_of, said_by, group_width, group_length, points_before, bits_before, wrong_group, decoded, point_of, point_at, points_up_to, places_of, unpack52}
@@ -14,7 +14,7 @@ use Rattle.format.specs.Point.{point52}
 use Rattle.format.specs.declared.Template.{Template}
 
 -- room: 10 is unpacking's alone
-room : (unpacked_number (unpack52 (template 0 0 1 0 0 0 0 1 0) 1 [] []).answer ≡ 10) × (picking 0 (template 0 0 1 0 0 0 0 1 0) 1 [] ≡ point (number 0))
+room : (answer_number (unpack52 (template 0 0 1 0 0 0 0 1 0) 1 [] []).answer ≡ 10) × (picking 0 (template 0 0 1 0 0 0 0 1 0) 1 [] ≡ point (number 0))
 unfolding listed reference_of total joined any_of first bit_in number_of span_of widths_at lengths_at values_at codes_of said_by group_width group_length points_before bits_before wrong_group decoded point_of point_at points_up_to places_of unpack52 point52
 room = (refl, refl)
 

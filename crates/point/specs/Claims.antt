@@ -12,9 +12,8 @@ use Rattle.format.specs.declared.Refusal.TheVariants.{Place}
 use Rattle.format.specs.declared.Template.{Template}
 use Rattle.format.specs.declared.DecodedValue.{DecodedValue}
 use Rattle.format.specs.declared.Named.TheVariants as named
-use Rattle.format.specs.declared.Unpacked.TheVariants as unpacked
-use Rattle.format.specs.declared.Picked.TheVariants as picked
 use Rattle.laws.specs.Points.{value_place}
+use Rattle.std.specs.declared.result.Result.TheVariants.{Ok, Err}
 
 -- ---- "With room enough for the map, the answer equals that place in the full unpacking, and refusals 1 to 9 are the same."
 
@@ -25,23 +24,23 @@ octets_at place buffer = take point_size (drop (place * point_size) buffer)
 -- a point that is answered
 pub record Answered (place : ℕ) (t : Template) (declared : ℕ) (payload : List ℕ) : Type 0 where
   pub point : DecodedValue
-  pub is : point52 place t declared payload ≡ picked.Point point
+  pub is : point52 place t declared payload ≡ Ok point
 
 module _ (place : ℕ) (t : Template) (declared : ℕ) (payload lent : List ℕ) where
   -- the map is unpacked into what is lent
   abbrev pub IsUnpacked : Type 0
-  IsUnpacked = (unpack52 t declared payload lent).answer ≡ unpacked.Points declared
+  IsUnpacked = (unpack52 t declared payload lent).answer ≡ Ok declared
 
   pub record AsUnpacked : Type 0 where
     -- "refusals 1 to 9 are the same", in both directions
     pub refused : (r : Refusal) → refusal_number r ≤ 9
-        → (point52 place t declared payload ≡ picked.Refused r) ↔ ((unpack52 t declared payload lent).answer ≡ unpacked.Refused r)
+        → (point52 place t declared payload ≡ Err r) ↔ ((unpack52 t declared payload lent).answer ≡ Err r)
     -- "15 when the place is not below the declared count" of a map that is unpacked
-    pub past : (point52 place t declared payload ≡ picked.Refused Place) ↔ (IsUnpacked × (declared ≤ place))
+    pub past : (point52 place t declared payload ≡ Err Place) ↔ (IsUnpacked × (declared ≤ place))
     -- "10 does not arise", nor does any other
-    pub no_other : (r : Refusal) → point52 place t declared payload ≡ picked.Refused r → (refusal_number r ≤ 9) ⊎ (r ≡ Place)
+    pub no_other : (r : Refusal) → point52 place t declared payload ≡ Err r → (refusal_number r ≤ 9) ⊎ (r ≡ Place)
     -- "the answer equals that place in the full unpacking": its octets, which are of no other point, since its number has 32 bits
-    pub same : (point : DecodedValue) → point52 place t declared payload ≡ picked.Point point
+    pub same : (point : DecodedValue) → point52 place t declared payload ≡ Ok point
         → IsUnpacked × (place < declared) × (octets_at place (unpack52 t declared payload lent).buffer ≡ point_octets point)
     -- and there is one at each place of a map that is unpacked
     pub there : IsUnpacked → place < declared → Answered place t declared payload
@@ -53,12 +52,12 @@ PlaceOfUnpacking =
 -- The calls take Section 5. Where it names 5.2, both read its declared count and its template numbers, so that all of this is said
 -- of them; and 14 is the same too.
 pub record Alike (place : ℕ) (section5 payload lent : List ℕ) : Type 0 where
-  pub one-point : (declared : ℕ) (t : Template) → named_by section5 ≡ named.Complex declared t
+  pub one-point : (declared : ℕ) (t : Template) → named_by section5 ≡ Ok (named.Complex declared t)
       → point_section5 place section5 payload ≡ point52 place t declared payload
-  pub whole-map : (declared : ℕ) (t : Template) → named_by section5 ≡ named.Complex declared t
+  pub whole-map : (declared : ℕ) (t : Template) → named_by section5 ≡ Ok (named.Complex declared t)
       → unpack_section5 section5 payload lent ≡ unpack52 t declared payload lent
-  pub refused : (r : Refusal) → named_by section5 ≡ named.Refused r
-      → (point_section5 place section5 payload ≡ picked.Refused r) × (unpack_section5 section5 payload lent ≡ left (unpacked.Refused r) lent)
+  pub refused : (r : Refusal) → named_by section5 ≡ Err r
+      → (point_section5 place section5 payload ≡ Err r) × (unpack_section5 section5 payload lent ≡ left (Err r) lent)
 
 abbrev pub BySection5 : Type 0
 BySection5 = (place : ℕ) (section5 payload lent : List ℕ) → Alike place section5 payload lent
