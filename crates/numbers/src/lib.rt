@@ -8,7 +8,7 @@ ghost use Rattle.format.specs.Grouping.{bits};
 ghost use Rattle.numbers.specs.Windows.{window_of, widened_by};
 ghost use Rattle.numbers.specs.Records.{coded_number};
 
-use format::Group;
+use format::{Group, NUMBER_SIZE};
 use std::marker::Model;
 
 // The numbers to pack, as they lie in lent octets, and the greatest of them. Every pass of packing gets its numbers here.
@@ -32,8 +32,8 @@ fn greatest_of(octets: &[u8]) -> u32
     ensures { result ≡ greatest (numbers_in octets.now) }
 {
     let mut greatest = 0;
-    for k in 0..octets.len() / format::NUMBER_SIZE {
-        greatest = greatest.max(layout::number_in(octets, k));
+    for k in 0..octets.len() / NUMBER_SIZE {
+        greatest = greatest.max(layout::whole_in::<NUMBER_SIZE>(octets, k));
     }
     greatest
 }
@@ -52,14 +52,14 @@ impl<'a> Numbers<'a> {
     pub fn len(&self) -> usize
         ensures { result ≡ length self.now }
     {
-        self.octets.len() / format::NUMBER_SIZE
+        self.octets.len() / NUMBER_SIZE
     }
 
     pub fn at(&self, k: usize) -> u32
         requires { k < length self.now }
         ensures { result ≡ get_or self.now k 0 }
     {
-        layout::number_in(self.octets, k)
+        layout::whole_in::<NUMBER_SIZE>(self.octets, k)
     }
 
     // 0 of none.

@@ -14,7 +14,7 @@ loop-k-init c = refl
 pub loop-k-preserved : goal.loop-k-preserved
 loop-k-preserved c =
     let t = c.loop-k-test.true in
-    greatest-turn _ _ (sym (length-listed _ _)) c.loop-k.invariant t (c.number_in.ensures ∙ number-listed _ _ t) (search rules)
+    greatest-turn _ _ (sym (length-listed _ _)) c.loop-k.invariant t (c.whole_in.ensures ∙ number-listed _ _ t) (search rules)
 
 pub returns : goal.returns
 returns c = greatest-all _ _ (sym (length-listed _ _)) c.loop-k.invariant c.loop-k-test.false

@@ -8,10 +8,10 @@ use Rattle.laws.specs.Lists.{length-listed}
 use Rattle.laws.specs.Stores.{number-listed}
 use Rattle.numbers.proofs.Numbers.at.Goals as goal
 
-pub number_in-requires : goal.number_in-requires
-number_in-requires c = let l = rw (← c.self.view_is, length-listed) at c.requires in omega arith
+pub whole_in-requires : goal.whole_in-requires
+whole_in-requires c = let l = rw (← c.self.view_is, length-listed) at c.requires in omega arith
 
 pub returns : goal.returns
 returns c =
-    c.number_in.ensures ∙ number-listed _ _ (rw (← c.self.view_is, length-listed) at c.requires)
+    c.whole_in.ensures ∙ number-listed _ _ (rw (← c.self.view_is, length-listed) at c.requires)
     ∙ ap (λ (l : List ℕ). get_or l c.args.k 0) c.self.view_is
