@@ -45,18 +45,18 @@ module _ (list : List ℕ) (end reach gain : ℕ) where
       pub next-ordered : w'.least ≤ w'.greatest
       next-ordered = window-ordered (slice end (i + 1) list) next-window
 
-      module _ {y z : ℕ} (ey : y ≡ bits (w'.greatest - w'.least)) (ez : z ≡ (reach - end) * y) where
-        next-width : z ≡ (reach - end) * width_of (slice end (i + 1) list)
-        next-width = ez ∙ ap (λ (n : ℕ). (reach - end) * n) (window-width (slice end (i + 1) list) next-window ey)
+      module _ {y : ℕ} (ey : y ≡ bits (w'.greatest - w'.least)) where
+        next-width : (reach - end) * y ≡ (reach - end) * width_of (slice end (i + 1) list)
+        next-width = ap (λ (n : ℕ). (reach - end) * n) (window-width (slice end (i + 1) list) next-window ey)
 
         -- a longer piece has no smaller range
-        pub looking-stops : gain ≤ z → false ≡ ltb (cost width_of (slice end reach list)) gain
+        pub looking-stops : gain ≤ (reach - end) * y → false ≡ ltb (cost width_of (slice end reach list)) gain
         looking-stops h =
             let n = length-slice end reach list far in
             let m = mul-le-mul_left (reach - end) (width-longer list end (i + 1) (omega arith) reach (omega arith) far) in
             rw n (sym (le-ltb ((reach - end) * width_of (slice end reach list)) gain (omega (arith, next-width))))
 
-        pub looking-more : z < gain → Looking list end reach gain w' (i + 1)
+        pub looking-more : (reach - end) * y < gain → Looking list end reach gain w' (i + 1)
         looking-more h = record { window = next-window; under = rw next-width at h }
 
     pub looking-end : i ≡ reach → true ≡ ltb (cost width_of (slice end reach list)) gain

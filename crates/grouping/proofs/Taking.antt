@@ -90,7 +90,7 @@ module _ (list : List ℕ) (k added start : ℕ) where
     wider-ordered ex ew = window-ordered (slice start (end + 1) list) (wider ex ew)
 
     module _ {x : ℕ} (ex : x ≡ next) {w' : Window} (ew : w' ≡ widened_by w x) {grown : ℕ} (eg : grown ≡ bits (w'.greatest - w'.least)) (narrow : grown ≤ 32)
-        {kept : ℕ} (e₁ : kept ≡ (end - start) * wide) {extend : ℕ} (e₂ : extend ≡ (end - start + 1) * grown) {gain : ℕ} (e₃ : gain ≡ extend - (kept + added)) where
+        {gain : ℕ} (e : gain ≡ (end - start + 1) * grown - ((end - start) * wide + added)) where
       longer : slice start (end + 1) list ≡ slice start end list ++ (next ∷ [])
       longer = slice_snoc list start end 0 (omega (arith, s.some)) l
 
@@ -106,14 +106,14 @@ module _ (list : List ℕ) (k added start : ℕ) where
           let c₁ : cost width_of (slice start end list) ≡ (end - start) * wide = rw (n, s.width) in
           let c₂ : cost width_of (slice start (end + 1) list) ≡ (end - start + 1) * grown = rw (m, wider-width) in
           let ahead = cost width_of (take k (drop end list)) in
-          let a : kept + added + ahead ≡ cost width_of (slice start end list) + (ahead + added) = omega (arith, e₁, c₁) in
-          rw (← longer, ← drop-cons list end 0 l, ← a, c₂, ← e₂) (by_gain ahead (kept + added) extend b (rw e₃ at h))
+          let a : (end - start) * wide + added + ahead ≡ cost width_of (slice start end list) + (ahead + added) = omega (arith, c₁) in
+          rw (← longer, ← drop-cons list end 0 l, ← a, c₂) (by_gain ahead ((end - start) * wide + added) ((end - start + 1) * grown) b (rw e at h))
 
       -- "the group ends before it"
       pub ended : ltb (cost width_of (take k (drop end list))) gain ≡ true
           → {g : Group} → g ≡ record { start = start; length = end - start; least = w.least; width = wide } → NextGroup k added list start g
       unfolding groups_from groups_of
-      ended h e = closed s (s.left ∙ rw (drop-cons list end 0 l, rule h)) e
+      ended h eg = closed s (s.left ∙ rw (drop-cons list end 0 l, rule h)) eg
 
       -- "otherwise it is taken in"
       pub taken : ltb (cost width_of (take k (drop end list))) gain ≡ false → Open list k added start w' grown (end + 1)

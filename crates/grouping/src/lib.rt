@@ -125,7 +125,7 @@ impl<'a> Ahead<'a> {
         let mut window = Window::of(self.numbers.at(self.end));
         for i in self.level..self.reach {
             window = window.widened(self.numbers.at(i));
-            if gain <= places::times(count, window.width()) {
+            if gain <= count * window.width() {
                 return false;
             }
         }
@@ -219,8 +219,8 @@ impl<'a> Rule<'a> {
         for end in start + 1..count {
             let wider = window.widened(numbers.at(end));
             let grown = wider.width();
-            let keep = places::times(end - start, width) + self.added as usize;
-            let extend = places::times(end - start + 1, grown);
+            let keep = (end - start) * width + self.added as usize;
+            let extend = (end - start + 1) * grown;
             match self.look_ahead(end, level, extend.saturating_sub(keep)) {
                 None => return group_of(start, end, window.least, width),
                 Some(known) => level = known,

@@ -10,12 +10,12 @@ loop-i-init c = (search rules, search looking-start)
 pub width-requires : goal.width-requires
 width-requires c = search next-ordered
 
-pub returns-then-gain-times : goal.returns-then-gain-times
-returns-then-gain-times c = search looking-stops
+pub returns-then-gain-count : goal.returns-then-gain-count
+returns-then-gain-count c = search looking-stops
 
 pub loop-i-preserved : goal.loop-i-preserved
 loop-i-preserved c =
-    (omega arith, looking-more _ _ _ _ (search rules) (search rules) (search rules) (search rules) (search rules) c.widened-window.ensures c.width.ensures.0 (search rules) c.if-gain-times.false)
+    (omega arith, looking-more _ _ _ _ (search rules) (search rules) (search rules) (search rules) (search rules) c.widened-window.ensures c.width.ensures.0 c.if-gain-count.false)
 
 pub returns : goal.returns
 returns c = looking-end _ _ _ _ (search rules) c.loop-i.invariant.1 (search rules) (omega arith)
