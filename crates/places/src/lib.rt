@@ -55,7 +55,7 @@ pub fn span(start: BitPlace, width: usize, count: usize) -> OctetPlace
     if count == 0 || width == 0 {
         return OctetPlace(0);
     }
-    OctetPlace(times(count / 8, width) + (start.0 + times(count % 8, width) + 7) / 8)
+    OctetPlace(count / 8 * width + (start.0 + count % 8 * width).div_ceil(8))
 }
 
 // The octets that a field of all groups spans.
@@ -105,14 +105,7 @@ pub fn octet_in(number: u64, after: usize) -> u8
     requires { after < 64 }
     ensures { result ≡ number / 2 ^ after % 256 }
 {
-    ((number >> after) % 256) as u8
-}
-
-// An octet, as a number that may grow.
-pub fn wide(octet: u8) -> u64
-    ensures { (result ≡ octet) × (result < 256) }
-{
-    octet as u64
+    cut(number, after, 8) as u8
 }
 
 // Numbers of the templates, as places and counts.

@@ -88,27 +88,6 @@ pub fn read_whole<const N: usize>(octets: &[u8], place: OctetPlace) -> u32
     read_gathered(gathered_there::<N>(octets, place), N, 0, N * 8)
 }
 
-pub fn eight_there(octets: &[u8], place: OctetPlace) -> u64
-    requires { place.0 + 8 ≤ length octets.now }
-    ensures { result ≡ gathered octets.now place.0 8 }
-{
-    gathered_there::<8>(octets, place)
-}
-
-pub fn read_four(octets: &[u8], place: OctetPlace) -> u32
-    requires { place.0 + 4 ≤ length octets.now }
-    ensures { result ≡ number_at octets.now (place.0 * 8) 32 }
-{
-    read_whole::<4>(octets, place)
-}
-
-pub fn read_two(octets: &[u8], place: OctetPlace) -> u32
-    requires { place.0 + 2 ≤ length octets.now }
-    ensures { result ≡ number_at octets.now (place.0 * 8) 16 }
-{
-    read_whole::<2>(octets, place)
-}
-
 // A place in octets that lie beside it, the width of the numbers from there on, and how many of them are left.
 #[derive(Clone, Copy)]
 pub struct Cursor {

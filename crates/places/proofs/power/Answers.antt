@@ -1,7 +1,0 @@
--- `places::power` meets its contract: the shift loses nothing. Assumes nothing.
-use native.Mathlib.Nat.{one-mul, mod-eq_of_lt}
-use lib.Pow.{pow-lt}
-use Rattle.places.proofs.power.Goals as goal
-
-pub returns : goal.returns
-returns c = rw one-mul (mod-eq_of_lt (pow-lt c.requires))
