@@ -1,4 +1,3 @@
 pub mod Located
 pub mod Restoring
 pub mod Spatial
-pub mod Named

@@ -1,12 +1,23 @@
 -- `decoder::unpack_complex` meets its contract. Assumes nothing.
-use Rattle.decoder.proofs.Located.{refused-52, done-52, laid-52, roomy-52}
+use Rattle.std.proofs.lemmas.Result.{err_from_is_err_and}
+use Rattle.decoder.proofs.Located.{decided-none, decided-other, decided-right, refused-52, done-52, found-at-52}
 use Rattle.decoder.proofs.unpack_complex.Goals as goal
 
+pub returns-in_err-located : goal.returns-in_err-located
+returns-in_err-located c =
+    let p = err_from_is_err_and c.from_residual.result c.from_residual.ensures.1 in
+    rw (p.1, p.2) (refused-52 _ _ _ _ c.located_complex.ensures (decided-none _ _ c.in_err-located.was))
+
+pub returns-in_err-check_points : goal.returns-in_err-check_points
+returns-in_err-check_points c =
+    let p = err_from_is_err_and c.from_residual-in_err-check_points.result c.from_residual-in_err-check_points.ensures.1 in
+    rw (p.1, p.2) (refused-52 _ _ _ _ c.located_complex.ensures (decided-other _ _ c.in_ok-located.was c.check_points.ensures c.in_err-check_points.was))
+
+pub invariant_of-groups : goal.invariant_of-groups
+invariant_of-groups c = record { laid = (found-at-52 _ _ _ _ (decided-right _ _ c.in_ok-located.was c.check_points.ensures c.in_ok-check_points.was) c.located_complex.ensures).0 }
+
 pub store_points-requires : goal.store_points-requires
-store_points-requires c = search (laid-52, roomy-52)
+store_points-requires c = (found-at-52 _ _ _ _ (decided-right _ _ c.in_ok-located.was c.check_points.ensures c.in_ok-check_points.was) c.located_complex.ensures).1
 
-pub returns-in-Refused : goal.returns-in-Refused
-returns-in-Refused c = search refused-52
-
-pub returns-in-At : goal.returns-in-At
-returns-in-At c = search done-52
+pub returns : goal.returns
+returns c = done-52 _ _ _ _ c.located_complex.ensures (decided-right _ _ c.in_ok-located.was c.check_points.ensures c.in_ok-check_points.was) c.store_points.ensures
