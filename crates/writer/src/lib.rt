@@ -33,7 +33,8 @@ impl Pen {
         }
     }
 
-    // Writes a number of `width` bits behind those that the pen has written.
+    // Writes a number of `width` bits behind those that the pen has written. Octets go out while there are eight bits: with a `for`
+    // over their count, `bits / 8`, packing takes 2 to 18 in a hundred more instructions.
     pub fn put(self, x: u64, width: usize, octets: &mut [u8]) -> Pen
         requires ready { Ready self width octets.old }
         requires width_bound { (width ≤ 32) × (x < 2 ^ width) }
