@@ -2,37 +2,14 @@
 #![tactic(auto)]
 
 ghost use Rattle.std.specs.Prelude.{◌≡◌, ◌<◌, ◌≤◌, ◌^◌, length};
-ghost use Rattle.format.specs.Lists.{greatest, ◌over◌};
-ghost use Rattle.format.specs.Layout.{numbers_in, in_fours, group_size, group_octets};
-ghost use Rattle.format.specs.Refusals.{left};
-ghost use Rattle.format.specs.Grouping.{width_of, groups_of, records_from, groups_lent};
-ghost use Rattle.format.specs.Packing.{template_of, summary_numbers, summary_size, pack_by, pack};
-ghost use Rattle.laws.specs.Groups.{groups_in, own_groups};
-ghost use Rattle.grouping.specs.Rule.{Limits, Unrefused};
-ghost use Rattle.encoder.specs.Whole.{Packable, rest};
+ghost use Rattle.format.specs.Lists.{◌over◌};
+ghost use Rattle.format.specs.Layout.{numbers_in, in_fours};
+ghost use Rattle.format.specs.Packing.{summary_numbers, summary_size, pack_by, pack};
 
-use format::{Grouped, OctetPlace, Packed, Refusal, Stored, Template};
-
-// The groups of a list in lent octets. "10 for the group list leaves the first groups in all lent slots"
-fn store_groups(numbers: &[u8], lookahead: usize, added: usize, groups: &mut [u8]) -> Grouped
-    requires { Limits (numbers_in numbers.now) lookahead × (added ≤ 65535) }
-    ensures { left result groups.new ≡ groups_lent group_octets group_size (records_from 0 (groups_of width_of added lookahead (numbers_in numbers.now))) groups.old }
-{
-    let count = numbers::count_of(numbers);
-    let room = groups.len() / format::GROUP_SIZE;
-    let mut start = 0usize;
-    let mut k = 0usize;
-    while start < count {
-        if room <= k {
-            return Grouped::Refused(Refusal::Room);
-        }
-        let group = grouping::next_group(numbers, lookahead, added, start);
-        layout::store_group(groups, k, group);
-        start += places::size(group.length);
-        k += 1;
-    }
-    Grouped::Groups(k as u32)
-}
+use coding::Records;
+use format::{OctetPlace, Packed, Refusal, Template};
+use grouping::Rule;
+use numbers::Numbers;
 
 // "Packing's eight template numbers, in the order of the cases, the group count and the payload length go to a lent 40 octets"
 fn store_summary(template: Template, octets: OctetPlace, summary: &mut [u8])
@@ -53,92 +30,31 @@ fn store_summary(template: Template, octets: OctetPlace, summary: &mut [u8])
         template.groups,
         octets.0 as u32,
     ];
-    layout::store_numbers(&numbers, summary);
+    layout::store_all(&numbers, summary);
 }
 
-// Payload and summary of the groups that are stored, with their template.
-fn write_out(
-    template: Template,
-    numbers: &[u8],
-    groups: &[u8],
-    count: usize,
-    payload: &mut [u8],
-    summary: &mut [u8],
-) -> Packed
-    requires { Packable (numbers_in numbers.now) groups.now count summary.old × (template ≡ template_of (numbers_in numbers.now) (own_groups (numbers_in numbers.now) (groups_in groups.now count))) }
-    ensures { record { answer = result; payload = payload.new; summary = summary.new } ≡ rest (numbers_in numbers.now) (own_groups (numbers_in numbers.now) (groups_in groups.now count)) payload.old summary.old }
-{
-    match section7::write_section7(template, numbers, groups, count, payload) {
-        Stored::Refused(refusal) => Packed::Refused(refusal),
-        Stored::Span(octets) => {
-            store_summary(template, octets, summary);
-            Packed::Payload(template, octets)
-        }
-    }
-}
-
-// What is left once the groups are stored.
-fn pack_groups(
-    top: u32,
-    numbers: &[u8],
-    groups: &[u8],
-    count: usize,
-    payload: &mut [u8],
-    summary: &mut [u8],
-) -> Packed
-    requires { Packable (numbers_in numbers.now) groups.now count summary.old × (top ≡ greatest (numbers_in numbers.now)) }
-    ensures { record { answer = result; payload = payload.new; summary = summary.new } ≡ rest (numbers_in numbers.now) (own_groups (numbers_in numbers.now) (groups_in groups.now count)) payload.old summary.old }
-{
-    let template = coding::template_of(top, groups, count);
-    write_out(template, numbers, groups, count, payload, summary)
-}
-
-// Packs numbers that are not refused, where the summary has room.
-fn pack_within(
-    added: usize,
-    lookahead: u32,
-    top: u32,
-    numbers: &[u8],
-    groups: &mut [u8],
-    payload: &mut [u8],
-    summary: &mut [u8],
-) -> Packed
-    requires { Unrefused lookahead (numbers_in numbers.now) × (top ≡ greatest (numbers_in numbers.now)) × (added ≤ 65535) × (summary_size ≤ length summary.old) }
-    ensures { record { answer = result; groups = groups.new; payload = payload.new; summary = summary.new } ≡ pack_by added lookahead (numbers_in numbers.now) groups.old payload.old summary.old }
-{
-    match store_groups(numbers, places::size(lookahead), added, groups) {
-        Grouped::Refused(refusal) => Packed::Refused(refusal),
-        Grouped::Groups(count) => pack_groups(
-            top,
-            numbers,
-            groups,
-            places::size(count),
-            payload,
-            summary,
-        ),
-    }
-}
-
-// Packs the numbers of a list by a rule that adds a cost for ending a group.
+// Packs the numbers of a list by a rule that adds a cost for ending a group. "Packing: 13, 10 for the group list, 10 for the
+// payload."; the 40 octets are "tested for 10 before the group list and changed only by success".
 fn pack_by(
-    added: usize,
+    added: u16,
     lookahead: u32,
-    numbers: &[u8],
+    numbers: &Numbers,
     groups: &mut [u8],
     payload: &mut [u8],
     summary: &mut [u8],
-) -> Packed
-    requires { added ≤ 65535 }
-    ensures { record { answer = result; groups = groups.new; payload = payload.new; summary = summary.new } ≡ pack_by added lookahead (numbers_in numbers.now) groups.old payload.old summary.old }
+) -> Result<Packed, Refusal>
+    ensures { record { answer = result; groups = groups.new; payload = payload.new; summary = summary.new } ≡ pack_by added lookahead numbers.now groups.old payload.old summary.old }
 {
-    let top = numbers::greatest_of(numbers);
-    if grouping::is_refused(numbers, top, lookahead) {
-        return Packed::Refused(Refusal::Numbers);
-    }
+    let rule = Rule::of(numbers, lookahead, added)?;
     if summary.len() < format::SUMMARY_SIZE {
-        return Packed::Refused(Refusal::Room);
+        return Err(Refusal::Room);
     }
-    pack_within(added, lookahead, top, numbers, groups, payload, summary)
+    let count = rule.store_groups(groups)?;
+    let records = Records::of(groups, count as usize);
+    let template = coding::template_of(numbers.greatest(), &records);
+    let octets = section7::write_section7(template, numbers, &records, payload)?;
+    store_summary(template, octets, summary);
+    Ok(Packed { template, octets })
 }
 
 // Packs the numbers of a list: groups, payload and summary go to lent octets. Document 01's rule adds no cost.
@@ -148,8 +64,15 @@ pub fn pack(
     groups: &mut [u8],
     payload: &mut [u8],
     summary: &mut [u8],
-) -> Packed
+) -> Result<Packed, Refusal>
     ensures { record { answer = result; groups = groups.new; payload = payload.new; summary = summary.new } ≡ pack lookahead (numbers_in numbers.now) groups.old payload.old summary.old }
 {
-    pack_by(0, lookahead, numbers, groups, payload, summary)
+    pack_by(
+        0,
+        lookahead,
+        &Numbers::of(numbers),
+        groups,
+        payload,
+        summary,
+    )
 }
