@@ -81,7 +81,7 @@ fn is_too_large(fields: &[u8], k: usize) -> bool
     requires { (k < 22) × (k < whole_ones number_size fields.now) }
     ensures { result ≡ too_large (lent_field fields.now k) }
 {
-    places::power(row_at(k).size * 8) <= layout::number_in(fields, k) as u64
+    places::power(row_at(k).size * 8) <= layout::whole_in::<NUMBER_SIZE>(fields, k) as u64
 }
 
 // 13: whether one is, of those for the rows of a template.
@@ -98,7 +98,7 @@ fn write_field(fields: &[u8], k: usize, section5: &mut [u8])
     ensures { section5.new ≡ laid (lent_field fields.now k ∷ []) section5.old }
 {
     let row = row_at(k);
-    let number = layout::number_in(fields, k);
+    let number = layout::whole_in::<NUMBER_SIZE>(fields, k);
     layout::store(section5, row.first - 1, number as u64, row.size);
 }
 
@@ -138,9 +138,9 @@ pub fn write_section5(fields: &[u8], section5: &mut [u8]) -> Result<OctetPlace, 
         return Err(Refusal::Section5);
     }
     let head = Head {
-        length: layout::number_in(fields, 0),
-        number: layout::number_in(fields, 1),
-        template: layout::number_in(fields, 3),
+        length: layout::whole_in::<NUMBER_SIZE>(fields, 0),
+        number: layout::whole_in::<NUMBER_SIZE>(fields, 1),
+        template: layout::whole_in::<NUMBER_SIZE>(fields, 3),
     };
     let kind = Kind::of(head)?;
     if count < kind.field_count() {

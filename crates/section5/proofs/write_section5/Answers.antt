@@ -10,7 +10,7 @@ returns-then-count-lt20 c = search write-few
 pub returns-in_err-kind : goal.returns-in_err-kind
 returns-in_err-kind c =
     let p = err_from_is_err_and c.from_residual.result c.from_residual.ensures.1 in
-    rw (p.1, p.2) (write-wrong _ _ (omega arith) c.number_in.ensures c.number_in-2.ensures c.number_in-3.ensures c.in_err-kind.ensures)
+    rw (p.1, p.2) (write-wrong _ _ (omega arith) c.whole_in.ensures c.whole_in-2.ensures c.whole_in-3.ensures c.in_err-kind.ensures)
 
 pub returns-then-count-field_count : goal.returns-then-count-field_count
 returns-then-count-field_count c = search (write-short, c.in_ok-kind.ensures)
