@@ -22,14 +22,14 @@ pub struct Surveyed {
     pub holder: Walk,
 }
 
-impl Surveyed {
-    // Where the parts are, without the group.
-    fn located(self) -> Located
-        ensures { result ≡ located_in self }
-    {
+// Where the parts are, without the group.
+impl From<Surveyed> for Located {
+    ghost from_gives = { λ surveyed located. located ≡ located_in surveyed };
+
+    fn from(surveyed: Surveyed) -> Self {
         Located {
-            places: self.places,
-            points: self.points,
+            places: surveyed.places,
+            points: surveyed.points,
         }
     }
 }
@@ -64,7 +64,7 @@ fn groups_surveyed(groups: &Groups, place: usize) -> Result<Surveyed, Refusal>
     })
 }
 
-// 1, then 2.
+// 1, then 2, which 5.2 and 5.3 share.
 fn check_kind(template: Template) -> Result<(), Refusal>
     ensures { result ≡ first Err (kind_refusals template) (Ok tt) }
 {
@@ -77,7 +77,7 @@ fn check_kind(template: Template) -> Result<(), Refusal>
     Ok(())
 }
 
-// 6, then 5.
+// 6, then 5, which they share too.
 fn check_fields(template: Template) -> Result<(), Refusal>
     ensures { result ≡ first Err (field_refusals template) (Ok tt) }
 {
@@ -129,7 +129,7 @@ pub fn surveyed_complex(
 pub fn located_complex(template: Template, payload: &[u8]) -> Result<Located, Refusal>
     ensures { result ≡ locate52 template payload.now }
 {
-    surveyed_complex(template, payload, 0).map(Surveyed::located)
+    surveyed_complex(template, payload, 0).map(Located::from)
 }
 
 // Where the descriptors end: as many first values as the order says, and the minimum.
@@ -159,7 +159,7 @@ pub fn located_spatial(
     if payload.len() < start {
         return Err(Refusal::Short);
     }
-    surveyed_from(template, start, payload, 0).map(Surveyed::located)
+    surveyed_from(template, start, payload, 0).map(Located::from)
 }
 
 // 9: "points do not equal the declared count, or that count is above 4,194,304".

@@ -1,24 +1,20 @@
 -- References, widths and lengths, out of what is read. Assumes nothing.
 use mathlib.Core.Path.{◌≡◌, sym, ◌∙◌}
-use mathlib.Core.Bool.{true, and-eq-true_iff}
 use mathlib.Core.List.{List}
-use Prim.Native.Nat.{ℕ, suc, ◌+◌, ◌-◌, ◌*◌, ◌/◌, ◌^◌, ◌≤◌, ◌<◌}
-use native.Mathlib.Nat.{add-mul, mul-le-mul_right, le_of_lt}
+use Prim.Native.Nat.{ℕ, suc, ◌+◌, ◌-◌, ◌*◌, ◌^◌, ◌≤◌, ◌<◌}
+use native.Mathlib.Nat.{add-mul}
 use native.Mathlib.Omega.{arith}
-use borrow.Author.Tests.{eq-eqb, ne_eqb, ltb-true, leb-true}
-use lib.Dec.{ltb, leb}
-use lib.ListN.{length}
+use borrow.Author.Tests.{eq-eqb, ne_eqb}
 use Rattle.format.specs.Bits.{number_at}
-use Rattle.format.specs.Refusals.{limit}
 use Rattle.format.specs.Template.{widths_at, lengths_at}
 use Rattle.format.specs.Unpacking.{Codes, codes_of, reference_of, group_width, group_length}
 use Rattle.format.specs.declared.Template.{Template}
 use Rattle.format.specs.declared.Places.{Places}
 use Rattle.laws.specs.Accepting.{Laid}
-use Rattle.laws.specs.Bits.{product, bit-lt, number-below}
+use Rattle.laws.specs.Bits.{bit-lt, number-below}
 use Rattle.laws.specs.Lists.{get_or-listed}
 use Rattle.groups.specs.declared.PackedGroup.{PackedGroup}
-use Rattle.groups.specs.Packed.{Limited, all_there}
+use Rattle.groups.specs.Packed.{Limited}
 
 module _ {t : Template} {p : Places} (h : Laid t p) (payload : List ℕ) (g : ℕ) where
   pub reference-read : {code : ℕ} → g < t.groups → code ≡ number_at payload (p.references.0 * 8 + g * t.width) t.width
@@ -54,19 +50,5 @@ value-below payload p w l e = rw e (number-below (bit-lt 8 payload) p w 31 l)
 -- ---- the place of value k
 
 module _ {group : PackedGroup} {p bit k : ℕ} (h : Limited group p) (e : bit ≡ p + k * group.width) (l : k < group.length) where
-  pub place-low : bit + group.width < 2 ^ 64
-  place-low = omega (arith, product k group.width limit 31 (omega arith) h.width)
-
   pub place-next : bit + group.width ≡ p + (k + 1) * group.width
   place-next = omega (arith, add-mul k 1 group.width)
-
-  module _ (payload : List ℕ) (there : all_there group payload p ≡ true) where
-    parts : (ltb 0 group.width ≡ true) × (leb ((p + group.length * group.width) / 8 + 8) (length payload) ≡ true)
-    parts = (and-eq-true_iff (ltb 0 group.width) _).0 there
-
-    -- eight octets are there where they are at the end
-    pub place-there : bit / 8 + 8 ≤ length payload
-    place-there = omega (arith, leb-true ((p + group.length * group.width) / 8 + 8) (length payload) parts.1, mul-le-mul_right group.width (le_of_lt l))
-
-    pub place-some : 0 < group.width
-    place-some = ltb-true 0 group.width parts.0
