@@ -16,7 +16,8 @@ use format::{Group, Lengths, Template, Widths};
 use numbers::Window;
 use std::marker::Model;
 
-// The records of groups, as they lie in lent octets.
+// The records of groups, as they lie in lent octets. Who goes through them counts to `len`: an iterator would repeat that count
+// in its `next`, with a contract of its own, and each loop would be as long.
 #[derive(Drop)]
 pub struct Records<'a> {
     octets: &'a [u8],
@@ -115,13 +116,11 @@ fn divisor_of(step: u32) -> u32
 }
 
 // "A step up to 255 is the increment; a larger one gives the greatest divisor of it that is at most 255."
+#[tactic(auto, using(std::proofs::lemmas::Bool::Decides::nat_tests), unfolding(format::specs::Packing::increment_of))]
 fn increment_of(step: u32) -> u32
     ensures { (result ≡ increment_of step) × (result ≤ 255) }
 {
-    if step <= 255 {
-        return step;
-    }
-    divisor_of(step)
+    if step <= 255 { step } else { divisor_of(step) }
 }
 
 // "Width reference = least group width; width bits = bits(greatest − least)."
@@ -141,9 +140,10 @@ fn length_bits(difference: u32, increment: u32) -> u32
     ensures { (result ≡ bits (difference / increment)) × (result ≤ 32) }
 {
     if increment == 0 {
-        return 0;
+        0
+    } else {
+        places::bits(difference / increment)
     }
-    places::bits(difference / increment)
 }
 
 // "With one group, length reference, increment and length bits are 0. Otherwise take all lengths but the last".
