@@ -1,4 +1,4 @@
-// What packing reads: the numbers of a list, their windows, and the numbers of a group.
+// What packing reads: the numbers of a list, and their windows.
 #![tactic(auto)]
 
 ghost use Rattle.std.specs.Prelude.{◌≡◌, List, ℕ, ◌∷◌, [], ◌-◌, ◌<◌, ◌≤◌, length, get_or};
@@ -6,9 +6,8 @@ ghost use Rattle.format.specs.Lists.{greatest};
 ghost use Rattle.format.specs.Layout.{numbers_in};
 ghost use Rattle.format.specs.Grouping.{bits};
 ghost use Rattle.numbers.specs.Windows.{window_of, widened_by};
-ghost use Rattle.numbers.specs.Records.{coded_number};
 
-use format::{Group, NUMBER_SIZE};
+use format::NUMBER_SIZE;
 use std::marker::Model;
 
 // The numbers to pack, as they lie in lent octets, and the greatest of them. Every pass of packing gets its numbers here.
@@ -104,23 +103,5 @@ impl Window {
         ensures { (result ≡ bits (self.greatest - self.least)) × (result ≤ 32) }
     {
         places::bits(self.greatest - self.least) as usize
-    }
-}
-
-// The fields of a payload that code a number of each group: its least number, its width, its length.
-#[derive(Clone, Copy)]
-pub enum Field {
-    References,
-    Widths,
-    Lengths,
-}
-
-pub fn coded_number(group: Group, field: Field) -> u32
-    ensures { result ≡ coded_number field group }
-{
-    match field {
-        Field::References => group.least,
-        Field::Widths => group.width,
-        Field::Lengths => group.length,
     }
 }
