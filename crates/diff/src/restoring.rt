@@ -91,8 +91,8 @@ impl<const ORDER: usize> Descriptors<ORDER> {
         ensures { result ≡ descriptors_of (record { order = ORDER; octets = octets }) payload.now }
     {
         let mut firsts = [BIAS; ORDER];
-        for k in 0..ORDER {
-            firsts[k] = first_value(octets, payload, k);
+        for (k, first) in firsts.iter_mut().enumerate() {
+            *first = first_value(octets, payload, k);
         }
         Descriptors {
             firsts,

@@ -29,8 +29,8 @@ fn numbers_in(section5: &[u8]) -> [u32; 22]
     ensures { result ≡ numbers_of (fields_in table section5.now) }
 {
     let mut numbers = [0; 22];
-    for k in 0..22 {
-        numbers[k] = number_at(section5, k);
+    for (k, number) in numbers.iter_mut().enumerate() {
+        *number = number_at(section5, k);
     }
     numbers
 }

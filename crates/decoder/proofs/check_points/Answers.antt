@@ -1,17 +1,15 @@
 -- `decoder::check_points` meets its contract. Assumes nothing.
 use native.Mathlib.Omega.{arith}
-use Rattle.std.proofs.lemmas.Result.{err_from_is_err_and}
 use Rattle.format.specs.Refusals.{count_refusals}
 use Rattle.std.specs.declared.result.Result.TheVariants.{Err}
 use Rattle.laws.specs.First.{decides, clears, tests}
 use Rattle.format.specs.declared.Refusal.TheVariants.{Room}
-use Rattle.group_fields.proofs.Checks.{check-passed, check-refused}
+use Rattle.group_fields.proofs.Checks.{passed_on, check-passed, check-refused}
 use Rattle.decoder.proofs.check_points.Goals as goal
 
 pub returns-in_err-check_count : goal.returns-in_err-check_count
 returns-in_err-check_count c =
-    let p = err_from_is_err_and c.from_residual.result c.from_residual.ensures.1 in
-    rw (p.1, p.2) (check-refused _ _ (count_refusals c.args.points c.args.declared) c.check_count.ensures c.in_err-check_count.was)
+    passed_on c.from_residual.ensures.1 (check-refused _ _ (count_refusals c.args.points c.args.declared) c.check_count.ensures c.in_err-check_count.was)
 
 pub returns-then-room-declared : goal.returns-then-room-declared
 returns-then-room-declared c =

@@ -3,4 +3,4 @@ use Rattle.section5.proofs.Rows.{Filled}
 use Rattle.section5.proofs.fields.numbers_in.Given as goal
 
 abbrev pub invariant-loop-k : goal.invariant-loop-k
-invariant-loop-k l = Filled l.section5 l.numbers l.k
+invariant-loop-k l = Filled l.section5 l.number-items l.k
