@@ -9,16 +9,9 @@ use lib.Dec.{eqb, ltb}
 use borrow.Author.Tests.{lt-ltb, le-ltb, ltb-true, ltb-false}
 use lib.ListN.{length}
 use Rattle.format.specs.Lists.{listed}
-use Rattle.format.specs.Bits.{rounded_up, number_at}
-use Rattle.format.specs.RunLength.{whole_codes, codes_up_to, only_padding, stops_before, codes_read, repeats_first, code_refusals}
-use Rattle.laws.specs.First.{Clear, tests}
+use Rattle.format.specs.Bits.{number_at}
+use Rattle.format.specs.RunLength.{whole_codes, codes_up_to, only_padding, stops_before, codes_read, repeats_first}
 use Rattle.laws.specs.Lists.{where-is}
-use Rattle.run_length.specs.Runs.{Coding}
-
--- ---- bits and greatest level
-
-pub coding-clear : {b M : ℕ} → Clear (code_refusals b M) → Coding b M
-coding-clear h = record { some = omega (arith, tests, h); few = omega (arith, tests, h); low = omega (arith, tests, h) }
 
 -- ---- whole codes
 
@@ -57,18 +50,6 @@ module _ (payload : List ℕ) (octet bit bits : ℕ) (reached : Bool) where
   -- five octets hold a code, and are no padding
   pub ends-not : octet + 5 ≤ length payload → bit ≤ 7 → bits ≤ 15 → false ≡ ends
   ends-not h l m = rw (le-ltb (length payload * 8) (octet * 8 + bit + bits) (omega arith), ← padding-many payload (octet * 8 + bit) (omega arith), and-false reached)
-
-  -- whole octets end where their bits end
-  module _ {up : ℕ} (e : up ≡ rounded_up (bit + bits)) where
-    pub ends-short : length payload < octet + up → true ≡ ends
-    ends-short h = rw (lt-ltb (length payload * 8) (octet * 8 + bit + bits) (omega arith))
-
-    module _ (h : octet + up ≤ length payload) where
-      pub ends-padding : reached ≡ true → {padding : Bool} → padding ≡ only_padding payload (octet * 8 + bit) → padding ≡ ends
-      ends-padding r e' = rw (le-ltb (length payload * 8) (octet * 8 + bit + bits) (omega arith), r, e')
-
-      pub ends_on : reached ≡ false → false ≡ ends
-      ends_on r = rw (le-ltb (length payload * 8) (octet * 8 + bit + bits) (omega arith), r)
 
 -- ---- how many codes are read
 

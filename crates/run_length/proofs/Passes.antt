@@ -11,7 +11,7 @@ use Rattle.std.proofs.Common.{length-take-le}
 use lib.ListN.{length, replicate, take, drop, drop_of_length-le, length-replicate}
 use lib.Seq.{sets, length-sets, take-nil, take_all}
 use mir.Val.{Fits}
-use mir.Syntax.{w16, w64}
+use mir.Syntax.{w64}
 use Rattle.format.specs.Lists.{listed, whole_ones, ◌over◌}
 use Rattle.format.specs.Refusals.{Row, limit, refusal_number, left}
 use Rattle.format.specs.Bits.{number_at}
@@ -21,7 +21,7 @@ use Rattle.format.specs.declared.Refusal.{Refusal}
 use Rattle.laws.specs.First.{Gives, Clear, gives-front, decides, clears}
 use Rattle.laws.specs.Lists.{length-listed, length_more, listed_more, either_left, either-right}
 use Rattle.laws.specs.Stores.{length-flat, flat-over}
-use Rattle.run_length.specs.Runs.{cap, place_of, Coding, Within, Waiting, meaning, Exactly, More, Unrolling, first_run}
+use Rattle.run_length.specs.Runs.{cap, place_of, Coding, Within, meaning, Exactly, More, Unrolling, first_run}
 use Rattle.run_length.specs.declared.Run.{Run}
 use Rattle.run_length.specs.declared.Turn.{Turn}
 use Rattle.run_length.proofs.Turns.{taken-code}
@@ -172,9 +172,6 @@ module _ {b M declared : ℕ} {payload : List ℕ} {room : ℕ} {lent : List ℕ
       on-here : stops_before b M declared payload w.taken ≡ false
       on-here = either-right (ltb (length payload * 8) (w.taken * b + b)) _ (sym ends_by ∙ left)
 
-      pub unrolled-waiting : Waiting b payload r
-      unrolled-waiting = record { within = w.within; left = inside }
-
       module _ {x : Turn} (ex : x ≡ meaning b M r (number_at payload (place_of r) b)) where
         taken_more : More b M payload r x.points x.next
         taken_more = taken-code c w.within inside ex
@@ -182,12 +179,6 @@ module _ {b M declared : ℕ} {payload : List ℕ} {room : ℕ} {lent : List ℕ
         -- a count that stops at the cap is far from wrapping
         pub unrolled-fits : Fits w64 (points + x.points)
         unrolled-fits = record { fits = omega (arith, taken_more.few, w.count) }
-
-        pub unrolled-level : Fits w16 x.next.level
-        unrolled-level = record { fits = omega (arith, taken_more.within.level-low) }
-
-        pub unrolled-less : length payload * 8 - place_of x.next < length payload * 8 - place_of r
-        unrolled-less = omega (arith, taken_more.ahead, c.some, inside)
 
         pub unrolled-next : room ≤ limit → room * level_size ≤ length lent → {end : ℕ} → end ≡ min (points + x.points) cap → {levels' : List ℕ}
             → levels' ≡ sets levels (points * level_size) (flat_map level_octets (replicate (min end room - points) x.next.level)) → UnrolledTo b M declared payload room lent x.next end levels'

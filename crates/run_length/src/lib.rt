@@ -113,7 +113,7 @@ impl LevelCoding {
     }
 
     // Unrolls the codes that are read: stores the levels that there is room for, and answers how many there are, or the cap
-    // where they are more. Lent nothing it decides, lent room for all of them it stores.
+    // where they are more. So one walk, with no switch, decides where nothing is lent, and stores where all have room.
     fn unroll(self, declared: usize, payload: &[u8], levels: &mut [u8]) -> usize
         requires { (declared ≤ limit) × (whole_ones level_size levels.old ≤ limit) }
         ensures { Unrolling self.bits self.greatest declared payload.now (whole_ones level_size levels.old) levels.old result levels.new }

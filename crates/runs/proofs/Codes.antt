@@ -5,7 +5,7 @@ use mathlib.Core.List.{List, [], ◌∷◌, map, flat_map}
 use Prim.Native.Nat.{ℕ, ◌+◌, ◌-◌, ◌^◌, ◌≤◌, ◌<◌}
 use native.Mathlib.Omega.{arith}
 use lib.Dec.{ltb}
-use lib.Pow.{pow_pos, pow_mono}
+use lib.Pow.{pow_pos}
 use lib.ListN.{length, replicate, length-append, length-replicate}
 use borrow.Author.Tests.{lt-ltb, le-ltb}
 use Rattle.format.specs.Lists.{any_of}
@@ -29,13 +29,6 @@ use Rattle.std.specs.declared.result.Result.TheVariants.{Ok, Err}
 module _ (c : LevelCoding) where
   pub level-fits : {level : ℕ} → level ≤ c.greatest → level < 2 ^ c.bits
   level-fits l = omega (arith, c.accepted.low, pow_pos c.bits)
-
-  pub digit-fits : {digit : ℕ} → digit < c.base → c.greatest + 1 + digit < 2 ^ c.bits
-  digit-fits l = omega (arith, c.base_is, c.accepted.low)
-
-  -- and are far from wrapping
-  pub digit-small : {digit : ℕ} → digit < c.base → c.greatest + 1 + digit < 2 ^ 15
-  digit-small l = omega (arith, digit-fits l, pow_mono {j = 15} c.accepted.few)
 
 -- ---- of a run
 

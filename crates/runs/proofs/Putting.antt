@@ -84,18 +84,12 @@ module _ {c : LevelCoding} {number : ℕ} {left : List ℕ} {p q : Pen} {octets 
     unfolding any_of
     digit-more m = record { below = either-right (leb c.base digit) (any_of (leb c.base) rest) next-digit.below; put = put-more next-digit.put (_ ∷ []) _ refl m }
 
-  pub digits-end : left ≡ [] → Moved p (string_of c.bits (digit_codes c number)) octets octets' q
-  digits-end e = put-end x.put (ap (map (λ digit. c.greatest + 1 + digit)) e)
-
 -- ---- a level that is repeated
 
 pub repeated-start : (b level n : ℕ) (p : Pen) (octets : List ℕ) → CodesPut b (replicate n level) (replicate (n - 0) level) p octets octets p
 repeated-start b level n p octets = rw (sub-zero n) (put-start b _ p octets)
 
 module _ (level n : ℕ) {b k : ℕ} {p q : Pen} {octets octets' : List ℕ} (x : CodesPut b (replicate n level) (replicate (n - k) level) p octets octets' q) where
-  pub repeated-end : n ≤ k → Moved p (string_of b (replicate n level)) octets octets' q
-  repeated-end l = let none : n - k ≡ 0 = omega arith in put-end x (ap (λ (m : ℕ). replicate m level) none)
-
   module _ (l : k < n) where
     next_level : replicate (n - k) level ≡ level ∷ replicate (n - (k + 1)) level
     next_level = let e : n - k ≡ suc (n - (k + 1)) = omega arith in ap (λ (m : ℕ). replicate m level) e

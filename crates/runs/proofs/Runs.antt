@@ -1,15 +1,15 @@
 -- The longest runs of a list of levels. Assumes nothing.
 use mathlib.Core.Path.{◌≡◌, refl, sym, ap, ◌∙◌}
-use mathlib.Core.Bool.{Bool, true, false, ◌||◌, false≢true}
+use mathlib.Core.Bool.{Bool, true, false, ◌||◌}
 use mathlib.Core.List.{List, [], ◌∷◌, ◌++◌, append_assoc}
 use Prim.Native.Nat.{ℕ, zero, suc, ◌+◌, ◌-◌, ◌*◌, ◌^◌, ◌≤◌, ◌<◌}
 use native.Mathlib.Nat.{add-zero, sub_self}
 use native.Mathlib.Numerals.{add-one}
 use native.Mathlib.Omega.{arith}
-use lib.Dec.{eqb, ltb}
+use lib.Dec.{eqb}
 use lib.ListN.{length, get_or, replicate, drop, drop_of_length-le, replicate-append-replicate}
 use lib.Seq.{drop-cons}
-use borrow.Author.Tests.{eq-eqb, eqb-true, ltb-true, ltb-false}
+use borrow.Author.Tests.{eq-eqb}
 use Rattle.format.specs.Lists.{whole_ones, any_of}
 use Rattle.format.specs.Bits.{bit_at, number_at}
 use Rattle.format.specs.Layout.{level_size, levels_in}
@@ -95,25 +95,11 @@ module _ {levels : List ℕ} {place level : ℕ} where
             ∙ ap (λ (l : List ℕ). l ++ drop end levels) (replicate-append-replicate (middle - place) (end - middle) level ∙ ap (λ (n : ℕ). replicate n level) all);
       }
 
--- ---- step by step
-
-module _ (levels : List ℕ) (level end : ℕ) {t : Bool} (e : t ≡ starts_with level (drop end levels)) where
-  starts-some : t ≡ true → end < length levels
-  starts-some h = by-test (ltb end (length levels)) refl
-    where
-      by-test : (u : Bool) → ltb end (length levels) ≡ u → end < length levels
-      by-test true m = ltb-true end (length levels) m
-      by-test false m = absurd (false≢true (starts-not level levels end refl (ltb-false end (length levels) m) ∙ sym e ∙ h))
-
-  pub stands-next : {place : ℕ} → t ≡ true → Stands levels place level end → Stands levels place level (end + 1)
-  stands-next h s =
-      let l : end < length levels = starts-some h in
-      stands_on s (stands_one l (sym (eqb-true (get_or levels end 0) level (starts_is level levels end refl l refl ∙ sym e ∙ h))))
-
-  pub stands-end : {place : ℕ} → t ≡ false → place < end → Stands levels place level end → Begins levels place (record { level = level; length = end - place })
-  stands-end {place} h some s =
-      let all : place + (end - place) ≡ end = omega (arith, s.low) in
-      record { some = omega arith; within = omega (arith, s.low, s.within); here = rw all s.here; longest = rw all (sym e ∙ h) }
+pub stands-end : (levels : List ℕ) {place level end : ℕ} → place < end → Stands levels place level end → starts_with level (drop end levels) ≡ false
+    → Begins levels place (record { level = level; length = end - place })
+stands-end levels {place} {end = end} some s h =
+    let all : place + (end - place) ≡ end = omega (arith, s.low) in
+    record { some = omega arith; within = omega (arith, s.low, s.within); here = rw all s.here; longest = rw all h }
 
 -- ---- four at a time
 

@@ -34,7 +34,7 @@ fn level_at(levels: &[u8], k: usize) -> usize
 }
 
 // Whether the eight octets from a place on are those of a level four times. Then it stands at the next four places; where they
-// are not, or are not there, nothing is said, since `run_at` goes on by single places.
+// are not, or are not there, nothing is said, since `end_from` goes on by single places.
 fn four_stand(levels: &[u8], place: usize, level: usize) -> bool
     requires { (place ≤ length (levels_in levels.now)) × (level < 2 ^ 16) }
     ensures { result ≡ true → Stands (levels_in levels.now) place level (place + 4) }
@@ -58,11 +58,18 @@ fn fours_from(levels: &[u8], place: usize, level: usize) -> usize
     end
 }
 
-// Whether there is another level, and it is this one.
-fn goes_on(levels: &[u8], place: usize, level: usize) -> bool
-    ensures { result ≡ starts_with level (drop place (levels_in levels.now)) }
+// The first place from there on where a level does not stand.
+fn end_from(levels: &[u8], place: usize, level: usize) -> usize
+    requires { place ≤ length (levels_in levels.now) }
+    ensures { Stands (levels_in levels.now) place level result × (starts_with level (drop result (levels_in levels.now)) ≡ false) }
 {
-    place < count_of(levels) && level_at(levels, place) == level
+    let count = count_of(levels);
+    for k in place..count {
+        if level_at(levels, k) != level {
+            return k;
+        }
+    }
+    count
 }
 
 // The longest run that begins at a place.
@@ -71,10 +78,8 @@ fn run_at(levels: &[u8], place: usize) -> LevelRun
     ensures { Begins (levels_in levels.now) place result }
 {
     let level = level_at(levels, place);
-    let mut end = fours_from(levels, place + 1, level);
-    while goes_on(levels, end, level) {
-        end += 1;
-    }
+    let fours = fours_from(levels, place + 1, level);
+    let end = end_from(levels, fours, level);
     LevelRun {
         level,
         length: end - place,

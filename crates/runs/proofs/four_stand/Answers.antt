@@ -1,6 +1,5 @@
 -- `runs::four_stand` meets its contract. Assumes nothing.
 use mathlib.Core.Path.{◌≡◌, ◌∙◌}
-use mathlib.Core.Bool.{false≢true}
 use mathlib.Core.List.{List}
 use Prim.Native.Nat.{ℕ, ◌/◌}
 use native.Mathlib.Omega.{arith}
@@ -15,14 +14,8 @@ use Rattle.runs.proofs.four_stand.Goals as goal
 long : {n : ℕ} (levels : List ℕ) → n ≡ length (levels_in levels) → n ≡ length levels / 2
 long levels e = e ∙ length-listed _ _
 
-pub count_of-requires : goal.count_of-requires
-count_of-requires c = tt
-
 pub overflow_add-place : goal.overflow_add-place
 overflow_add-place c = omega (arith, long c.args.levels.now c.count_of.ensures)
-
-pub returns-then-count_of-place : goal.returns-then-count_of-place
-returns-then-count_of-place c = λ e. absurd (false≢true e)
 
 pub overflow_mul-place : goal.overflow_mul-place
 overflow_mul-place c = omega (arith, long c.args.levels.now c.count_of.ensures)

@@ -2,7 +2,7 @@
 use mathlib.Core.Path.{ap}
 use Rattle.format.specs.WritingRunLength.{digits_of}
 use Rattle.runs.specs.declared.Digits.{Digits}
-use Rattle.runs.proofs.Putting.{digits-start, digit-low, digit-ready, digit-more, digits-end}
+use Rattle.runs.proofs.Putting.{digits-start, digit-low, digit-ready, digit-more}
 use Rattle.runs.proofs.put_digits.Goals as goal
 
 pub loop-digit-init : goal.loop-digit-init
@@ -13,6 +13,3 @@ put_digit-here-requires c = let e = c.in-Some.ensures.steps in (digit-low c.loop
 
 pub loop-digit-preserved : goal.loop-digit-preserved
 loop-digit-preserved c = digit-more c.loop-digit.invariant c.in-Some.ensures.steps c.put_digit-here.ensures
-
-pub returns : goal.returns
-returns c = digits-end c.loop-digit.invariant c.in-None.ensures.steps.0

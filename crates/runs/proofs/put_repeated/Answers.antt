@@ -1,7 +1,7 @@
 -- `runs::put_repeated` meets its contract. Assumes nothing.
 use native.Mathlib.Omega.{arith}
 use Rattle.runs.proofs.Codes.{level-fits}
-use Rattle.runs.proofs.Putting.{repeated-start, repeated-end, repeated-ready, repeated-more}
+use Rattle.runs.proofs.Putting.{repeated-start, repeated-ready, repeated-more}
 use Rattle.runs.proofs.put_repeated.Goals as goal
 
 pub loop-init : goal.loop-init
@@ -12,6 +12,3 @@ put-here-requires c = record { ready = repeated-ready _ _ c.loop.invariant c.loo
 
 pub loop-preserved : goal.loop-preserved
 loop-preserved c = repeated-more _ _ c.loop.invariant c.loop-test.true c.put-here.ensures
-
-pub returns : goal.returns
-returns c = repeated-end _ _ c.loop.invariant c.loop-test.false

