@@ -18,7 +18,7 @@ use format::{Group, NUMBERS_PER_GROUP, Refusal};
 use layout::InOctets;
 use numbers::{Numbers, Window};
 
-// What a lent list of groups is made of: numbers, four a group, or octets.
+// What a lent list of groups is made of: numbers, or octets. Contracts see the list by `items`, and a group as it is `stored`.
 pub trait Slot {
     ghost PER_GROUP: { ℕ };
 
@@ -115,8 +115,8 @@ impl<'a> Ahead<'a> {
         self.reach
     }
 
-    // Whether they cost less than that. A longer piece has no smaller range: what is too dear already stays so, and the
-    // look-ahead stops.
+    // Whether they cost less than what ending the group gains. A longer piece has no smaller range: what is too dear already
+    // stays so, and the look-ahead stops.
     fn is_less(&self, gain: usize) -> bool
         requires { (self.now.end < self.now.level) × (0 < gain) }
         ensures { result ≡ ltb (cost width_of (slice self.now.end self.now.reach self.now.numbers.now)) gain }
@@ -239,6 +239,7 @@ impl<'a> Rule<'a> {
         let room = S::room(slots);
         let mut start = 0;
         let mut k = 0;
+        // No `for`: a turn moves on by as many numbers as the group has that it finds.
         while start < count {
             if room <= k {
                 return Err(Refusal::Room);
