@@ -110,16 +110,6 @@ fn put_values(numbers: &Numbers, records: &Records, pen: Pen, payload: &mut [u8]
     here
 }
 
-// "each starting on an octet": the values.
-fn write_values(numbers: &Numbers, records: &Records, place: OctetPlace, payload: &mut [u8])
-    requires recorded { Recorded numbers.now records.now }
-    requires room { place.0 + rounded_up (value_bits records.now) ≤ length payload.old }
-    ensures { payload.new ≡ sets payload.old place.0 (padded (value_string (own_groups numbers.now records.now))) }
-{
-    let pen = put_values(numbers, records, Pen::at(place), payload);
-    pen.finish(payload);
-}
-
 // The bits of all values.
 fn value_bits(records: &Records) -> usize
     requires { Countable records.now }
@@ -175,6 +165,7 @@ pub fn write_section7(
         places.lengths,
         payload,
     );
-    write_values(numbers, records, places.values, payload);
+    let pen = put_values(numbers, records, Pen::at(places.values), payload);
+    pen.finish(payload);
     Ok(places.end)
 }
