@@ -37,17 +37,17 @@ pub struct Turn {
 }
 
 // Whether "fewer than 8 bits are left, all zero": fewer than 8 lie in the last octet, and do not begin it.
-fn is_padding(payload: &[u8], octet: OctetPlace, bit: usize) -> bool
-    requires { (octet.0 < length payload.now) × (bit ≤ 7) }
-    ensures { result ≡ only_padding payload.now (octet.0 * 8 + bit) }
+fn is_padding(payload: &[u8], run: Run) -> bool
+    requires { (run.octet.0 < length payload.now) × (run.bit ≤ 7) }
+    ensures { result ≡ only_padding payload.now (place_of run) }
 {
-    if bit == 0 {
+    if run.bit == 0 {
         return false;
     }
-    if octet.0 + 1 < payload.len() {
+    if run.octet.0 + 1 < payload.len() {
         return false;
     }
-    stream::read_in_octet(payload, octet, bit, 8 - bit) == 0
+    stream::read_in_octet(payload, run.octet, run.bit, 8 - run.bit) == 0
 }
 
 // The run before the first code. A repeat code there is refused, so its level is never seen.
@@ -72,17 +72,17 @@ impl LevelCoding {
     // Where reading ends: "fewer than b bits at the end are ignored", and once the declared count is `reached`, padding is not
     // read. Where five octets are there, which reading a code asks for too, neither ends the payload. The octets that a code
     // reaches into are rounded up by 7 more bits, which cannot overflow here.
-    fn ends(self, payload: &[u8], octet: OctetPlace, bit: usize, reached: bool) -> bool
-        requires { (octet.0 ≤ length payload.now) × (bit ≤ 7) }
-        ensures { result ≡ (ltb (length payload.now * 8) (octet.0 * 8 + bit + self.bits) || (reached && only_padding payload.now (octet.0 * 8 + bit))) }
+    fn ends(self, payload: &[u8], run: Run, reached: bool) -> bool
+        requires { (run.octet.0 ≤ length payload.now) × (run.bit ≤ 7) }
+        ensures { result ≡ (ltb (length payload.now * 8) (place_of run + self.bits) || (reached && only_padding payload.now (place_of run))) }
     {
-        if octet.0 + 5 <= payload.len() {
+        if run.octet.0 + 5 <= payload.len() {
             return false;
         }
-        if payload.len() < octet.0 + places::octet_of(BitPlace(bit + self.bits + 7)).0 {
+        if payload.len() < run.octet.0 + places::octet_of(BitPlace(run.bit + self.bits + 7)).0 {
             return true;
         }
-        reached && is_padding(payload, octet, bit)
+        reached && is_padding(payload, run)
     }
 
     // Takes the next code. Levels and repeat codes alternate as the map has it, and a branch between them is guessed wrong: it
@@ -91,9 +91,8 @@ impl LevelCoding {
         requires { Waiting self.bits payload.now run }
         ensures { result ≡ meaning self.bits self.greatest run (number_at payload.now (place_of run) self.bits) }
     {
-        let octet = run.octet;
         let end = BitPlace(run.bit + self.bits);
-        let code = stream::read_in_octet(payload, octet, run.bit, self.bits) as usize;
+        let code = stream::read_in_octet(payload, run.octet, run.bit, self.bits) as usize;
         let is_level = code <= self.greatest;
         let raised = (self.base * run.weight).min(CAP);
         let more = code.saturating_sub(self.greatest + 1) * run.weight;
@@ -103,7 +102,7 @@ impl LevelCoding {
             (run.level, raised)
         };
         let next = Run {
-            octet: OctetPlace(octet.0 + places::octet_of(end).0),
+            octet: OctetPlace(run.octet.0 + places::octet_of(end).0),
             bit: places::bit_in_octet(end),
             level,
             weight,
@@ -121,8 +120,7 @@ impl LevelCoding {
         let mut run = START;
         let mut points = 0usize;
         loop {
-            let octet = run.octet;
-            if self.ends(payload, octet, run.bit, points == declared) {
+            if self.ends(payload, run, points == declared) {
                 return points;
             }
             let turn = self.taken(payload, run);
@@ -138,7 +136,7 @@ impl LevelCoding {
     fn repeats_first(self, payload: &[u8]) -> bool
         ensures { result ≡ repeats_first self.greatest (codes_up_to self.bits payload.now (whole_codes self.bits payload.now)) }
     {
-        if self.ends(payload, OctetPlace(0), 0, false) {
+        if self.ends(payload, START, false) {
             return false;
         }
         self.greatest < (stream::read_number(payload, BitPlace(0), self.bits) as usize)

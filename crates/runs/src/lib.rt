@@ -18,7 +18,8 @@ use writer::Pen;
 // 2^48 + 2^32 + 2^16 + 1: a number of sixteen bits, times this, stands four times in 64 bits.
 const FOUR_TIMES: u64 = 281474976710656 + 4294967296 + 65536 + 1;
 
-// How many levels a list has. "spare octets short of a whole one are not used"
+// How many levels a list has. "spare octets short of a whole one are not used" A type whose contracts see the list of levels was
+// tried: it hides how few octets a list can have, which each sum of places needs.
 fn count_of(levels: &[u8]) -> usize
     ensures { result ≡ length (levels_in levels.now) }
 {
@@ -46,7 +47,8 @@ fn four_stand(levels: &[u8], place: usize, level: usize) -> bool
     octets == (level as u64) * FOUR_TIMES
 }
 
-// A place up to which a level stands, found by four places at a time: not always its last.
+// A place up to which a level stands, found by four places at a time: not always its last. A `for` by steps of four would name an
+// end, and answer it once more behind the loop.
 fn fours_from(levels: &[u8], place: usize, level: usize) -> usize
     requires { (place ≤ length (levels_in levels.now)) × (level < 2 ^ 16) }
     ensures { Stands (levels_in levels.now) place level result }
@@ -148,7 +150,8 @@ impl Iterator for Digits {
     }
 }
 
-// How many codes a run takes.
+// How many codes a run takes. A function of a coding, as are those that write: methods stand where their type does, and the
+// crate that reads knows no pen.
 fn code_count(coding: LevelCoding, run: LevelRun) -> usize
     requires { 0 < run.length }
     ensures { result ≡ length (run_codes coding.greatest coding.base run) }

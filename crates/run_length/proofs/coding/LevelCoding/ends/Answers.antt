@@ -2,5 +2,5 @@
 use Rattle.run_length.proofs.Codes.{ends-not}
 use Rattle.run_length.proofs.coding.LevelCoding.ends.Goals as goal
 
-pub returns-then-octet-payload : goal.returns-then-octet-payload
-returns-then-octet-payload c = search ends-not
+pub returns-then-run-payload : goal.returns-then-run-payload
+returns-then-run-payload c = search ends-not
