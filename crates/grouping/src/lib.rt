@@ -92,7 +92,7 @@ impl Slot for u8 {
 }
 
 // The numbers that the look-ahead takes, from `end` as far as `reach`. Those before `level` are known to be equal.
-#[derive(Clone, Copy)]
+#[derive(Drop)]
 struct Ahead<'a> {
     numbers: &'a Numbers<'a>,
     end: usize,
@@ -147,7 +147,7 @@ fn group_of(start: usize, end: usize, least: u32, width: usize) -> Group
 
 // Which numbers are put into groups, how far is looked ahead, and what ending a group costs besides; document 01's rule adds
 // nothing.
-#[derive(Clone, Copy)]
+#[derive(Drop)]
 pub struct Rule<'a> {
     pub numbers: &'a Numbers<'a>,
     pub lookahead: usize,
