@@ -15,40 +15,6 @@ pub struct Reader<'a> {
     pub cursor: Cursor,
 }
 
-// Whether a cursor is none that `Cursor::next` takes: it would move past what 64 bits count.
-fn is_outside(cursor: Cursor) -> bool
-    ensures { result ≡ outside cursor }
-{
-    32 < cursor.width || 1 << 63 <= cursor.place.0
-}
-
-// The octets that reach as far as the last number.
-fn reach(cursor: Cursor) -> OctetPlace
-    requires { Inside cursor }
-    ensures { result.0 ≡ span_of cursor.place.0 cursor.width cursor.left }
-{
-    let bits = cursor.left as usize * cursor.width;
-    if bits == 0 {
-        return OctetPlace(0);
-    }
-    places::octets_to(BitPlace(cursor.place.0 + bits))
-}
-
-// The cursor behind the next `count` numbers, or behind the last. One that is refused stays.
-fn moved_on(cursor: Cursor, count: u32) -> Cursor
-    ensures { result ≡ moved_on cursor count }
-{
-    if is_outside(cursor) {
-        return cursor;
-    }
-    let numbers = count.min(cursor.left);
-    Cursor {
-        place: BitPlace(cursor.place.0 + numbers as usize * cursor.width),
-        left: cursor.left - numbers,
-        ..cursor
-    }
-}
-
 impl<'a> Reader<'a> {
     pub fn new(octets: &'a [u8], cursor: Cursor) -> Self
         ensures { result ≡ reader_on octets.entry cursor }
@@ -56,15 +22,36 @@ impl<'a> Reader<'a> {
         Reader { octets, cursor }
     }
 
+    // Whether the cursor is none that `Cursor::next` takes: it would move past what 64 bits count.
+    fn is_outside(self) -> bool
+        ensures { result ≡ outside self.entry.cursor }
+    {
+        32 < self.cursor.width || 1 << 63 <= self.cursor.place.0
+    }
+
+    // The octets that reach as far as the last number.
+    #[tactic(auto, using(std::proofs::lemmas::Bool::Decides::nat_tests), unfolding(format::specs::Bits::span_of))]
+    fn reach(self) -> OctetPlace
+        requires { Inside self.cursor }
+        ensures { result.0 ≡ span_of self.entry.cursor.place.0 self.entry.cursor.width self.entry.cursor.left }
+    {
+        let bits = self.left() as usize * self.cursor.width;
+        if bits == 0 {
+            return OctetPlace(0);
+        }
+        places::octets_to(BitPlace(self.cursor.place.0 + bits))
+    }
+
     // The next number, or none where none is left; it comes alone: `moved` goes on behind it. Width and place, which
     // `Cursor::next` asks for, have their answer here, and so have octets that end too early.
+    #[tactic(auto, using(std::proofs::lemmas::Bool::Decides::nat_tests), unfolding(crate::specs::Reading::taken_at, format::specs::Refusals::first))]
     pub fn number(self) -> Result<Option<u32>, Refusal>
         ensures { result ≡ taken_at self.entry.octets.now self.entry.cursor }
     {
-        if is_outside(self.cursor) {
+        if self.is_outside() {
             return Err(Refusal::Width);
         }
-        if self.octets.len() < reach(self.cursor).0 {
+        if self.octets.len() < self.reach().0 {
             return Err(Refusal::Short);
         }
         Ok(self.cursor.next(self.octets).map(|step| step.number))
@@ -77,13 +64,23 @@ impl<'a> Reader<'a> {
         self.cursor.left
     }
 
+    // Behind the next `count` numbers, or behind the last. One that is refused stays.
+    #[tactic(auto, using(std::proofs::lemmas::Bool::Decides::nat_tests), unfolding(crate::specs::Reading::moved_on))]
     pub fn moved(self, count: u32) -> Self
         ensures { result ≡ reader_on self.entry.octets (moved_on self.entry.cursor count) }
     {
-        Reader {
-            cursor: moved_on(self.cursor, count),
-            ..self
+        if self.is_outside() {
+            return self;
         }
+        let numbers = count.min(self.left());
+        let place = BitPlace(self.cursor.place.0 + numbers as usize * self.cursor.width);
+        let left = self.left() - numbers;
+        let cursor = Cursor {
+            place,
+            left,
+            ..self.cursor
+        };
+        Reader { cursor, ..self }
     }
 }
 

@@ -15,6 +15,7 @@ use std::array;
 // remainder." Every number that is read out of octets is read here. It has `width` bits, from bit `bit` of the first of `count`
 // gathered octets on: `cut` shifts once, past the bits behind it, and takes one remainder. Octets that were gathered and that it
 // does not touch do not matter (specs/Claims.antt).
+#[tactic(auto, using(crate::proofs::Numbers::cut_fits))]
 pub fn read_gathered(gathered: u64, count: usize, bit: usize, width: usize) -> u32
     requires { (count ≤ 8) × (bit + width ≤ count * 8) × (count * 8 < 64 + bit + width) × (width ≤ 32) }
     ensures { result ≡ gathered / 2 ^ (count * 8 - bit - width) % 2 ^ width }
@@ -37,6 +38,7 @@ pub fn gathered_there<const N: usize>(octets: &[u8], place: OctetPlace) -> u64
 
 // "the octets that a number touches, at most five": five from the first of them on, those past the end as 0. Where all are there
 // none is tested by itself.
+#[tactic(auto, unfolding(laws::specs::Bits::gathered))]
 pub fn five_from(octets: &[u8], place: OctetPlace) -> u64
     requires { place.0 < 2 ^ 63 }
     ensures { result ≡ gathered octets.now place.0 5 }
@@ -104,6 +106,7 @@ pub struct Step {
 }
 
 impl Cursor {
+    #[tactic(auto, using(std::proofs::lemmas::Bool::Decides::nat_tests), unfolding(crate::specs::Cursor::made_at, format::specs::Refusals::first))]
     pub fn new(place: BitPlace, width: usize, count: u32) -> Result<Cursor, Refusal>
         ensures { result ≡ made_at place width count }
     {
@@ -118,6 +121,7 @@ impl Cursor {
     }
 
     // Width 0 gives zeros until none are left, whatever the octets are.
+    #[tactic(auto, using(std::proofs::lemmas::Bool::Decides::nat_tests), unfolding(crate::specs::Cursor::stepped))]
     pub fn next(self, octets: &[u8]) -> Option<Step>
         requires { Inside self }
         ensures { result ≡ stepped octets.now self }
@@ -145,6 +149,7 @@ fn fill(octets: &[u8], start: BitPlace, width: usize, numbers: &mut [u32])
 }
 
 // Reads `count` numbers of `width` bits from bit `start` of the octets on.
+#[tactic(auto, using(std::proofs::lemmas::Bool::Decides::nat_tests), unfolding(format::specs::Bits::read_field, format::specs::Refusals::first))]
 pub fn read_field(
     octets: &[u8],
     start: BitPlace,
