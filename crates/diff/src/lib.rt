@@ -12,7 +12,9 @@ mod restoring;
 use format::{Differencing, Refusal};
 use restoring::Descriptors;
 
-// Restores the packed points, which take all of the lent octets, as far as none is beyond 2^60 either way.
+// Restores the packed points, which take all of the lent octets, as far as none is beyond 2^60 either way. It stays a function
+// of its own: within unpacking the compiler makes a constant of the loop anew at each point.
+#[inline(never)]
 pub fn restore(differencing: Differencing, payload: &[u8], points: &mut [u8]) -> Result<(), Refusal>
     requires { Orderly differencing }
     ensures { (packed : List DecodedValue) → Holding packed points.old → Restored differencing payload.now packed result points.old points.new }
