@@ -1,18 +1,28 @@
--- Storing a number, octet by octet. Assumes nothing.
+-- Things stored one behind the other, and a number octet by octet or as the library has its octets. Assumes nothing.
 use mathlib.Core.Path.{◌≡◌, refl, sym, ap, ap₂, ◌∙◌}
 use mathlib.Core.List.{List, [], ◌∷◌, ◌++◌, append-nil, flat_map}
+use lib.ListN.{set}
+use native.Mathlib.Nat.{div-div-eq-div-mul}
+use lib.Pow.{pow-add}
+use lib.Seq.{set_comm}
+use Rattle.format.specs.Layout.{point_octets, mark_of, held_by}
+use Rattle.format.specs.declared.DecodedValue.{DecodedValue}
+use Rattle.laws.specs.Stores.{sets_more, octet-power}
+use Rattle.laws.specs.Lists.{listed-add}
+use native.Mathlib.Numerals.{add-one}
+use Prim.Native.Nat.{◌<◌}
 use Prim.Native.Nat.{ℕ, zero, suc, ◌+◌, ◌-◌, ◌*◌, ◌/◌, ◌%◌, ◌^◌, ◌≤◌}
 use native.Mathlib.Omega.{arith}
 use borrow.Rule.Slice.PartMut.{put_mid}
 use Rattle.std.specs.Int.{byte_at, bytes_high_first}
-use Rattle.std.proofs.Common.{zero-add, suc-add, append_assoc, zero-mul, take_all, add-mul, div-one, drop-drop, take, drop, length-drop, length-take-le}
+use Rattle.std.proofs.Common.{append_assoc, zero-mul, take_all, add-mul, div-one, drop-drop, take, drop, length-drop, length-take-le}
 use Rattle.std.proofs.lemmas.List.Edits.{sets-eq}
 use Rattle.std.proofs.lemmas.List.{drop_all}
 use lib.ListN.{length}
 use lib.Seq.{sets}
 use lib.IntN.{ℤ, pos, negsuc}
 use mir.Syntax.{w64}
-use mir.Val.{to_z, of_z}
+use mir.Val.{of_z}
 use Rattle.format.specs.Lists.{listed, ◌over◌}
 use Rattle.format.specs.Layout.{big_endian, twos_complement}
 use Rattle.laws.specs.Stores.{sets-append, sets-front, flat_append, length-flat}
@@ -64,11 +74,6 @@ high_first (suc n) x =
     (byte-is n x ∙ rw e)
     (high_first n x ∙ listed-ext n _ _ (λ i l. let m : suc n - suc (suc i) ≡ n - suc i = omega arith in rw m))
 
--- the last n of them
-pub high_last : (m n x : ℕ) → drop m (bytes_high_first (m + n) x) ≡ bytes_high_first n x
-high_last zero n x = rw (zero-add n)
-high_last (suc m) n x = rw (suc-add m n) (high_last m n x)
-
 -- of a signed number
 pub signed-is : (z : ℤ) → of_z w64 z ≡ twos_complement z
 signed-is (pos n) = refl
@@ -78,14 +83,56 @@ signed-is (negsuc n) = refl
 pub number_stored : (octets : List ℕ) (at k n x : ℕ) {part : List ℕ} → part ≡ bytes_high_first n x → n ≡ k → at + n ≤ length octets → put_mid at k octets part ≡ sets octets at (big_endian n x)
 number_stored octets at k n x e l r = part_stored octets at k _ _ (e ∙ high_first n x) (length-listed n (λ i. x / 256 ^ (n - suc i) % 256) ∙ l) (omega arith)
 
--- and those of a signed one, as it fits 64 bits
-pub signed_stored : (octets : List ℕ) (at k : ℕ) (z : ℤ) {part : List ℕ} → to_z w64 (of_z w64 z) ≡ z → part ≡ bytes_high_first 8 (of_z w64 (to_z w64 (of_z w64 z))) → 8 ≡ k → at + 8 ≤ length octets
-    → put_mid at k octets part ≡ sets octets at (big_endian 8 (twos_complement z))
-signed_stored octets at k z f e l r =
-    number_stored octets at k 8 (of_z w64 z) (e ∙ ap (λ (y : ℤ). bytes_high_first 8 (of_z w64 y)) f) l r ∙ ap (λ (x : ℕ). sets octets at (big_endian 8 x)) (signed-is z)
-
 -- things that lie over all of a part
 pub all_of_part : (octets : List ℕ) (at k : ℕ) {part : List ℕ} (xs : List ℕ) → part ≡ xs over take k (drop at octets) → length xs ≡ k → at + k ≤ length octets → put_mid at k octets part ≡ sets octets at xs
 all_of_part octets at k xs e l r =
     let m : length (take k (drop at octets)) ≤ length xs = omega (arith, length-take-le k (drop at octets) (omega (arith, length-drop at octets))) in
     part_stored octets at k _ xs (e ∙ rw (drop_all (length xs) (take k (drop at octets)) m) (append-nil xs)) l r
+
+-- ---- a number, octet by octet
+
+-- a turn of the loop that stores the n octets of x
+pub octet-stored : (octets₀ : List ℕ) (at x n i : ℕ) {octets : List ℕ} {octet : ℕ} → octets ≡ sets octets₀ at (listed i (λ k. x / 256 ^ (n - suc k) % 256))
+    → octet ≡ x / 2 ^ ((n - 1 - i) * 8) % 256 → set octets (at + i) octet ≡ sets octets₀ at (listed (i + 1) (λ k. x / 256 ^ (n - suc k) % 256))
+octet-stored octets₀ at x n i s e =
+    let m : n - 1 - i ≡ n - suc i = omega arith in
+    rw (s, e, octet-power (n - 1 - i), m) (sets_more (λ k. x / 256 ^ (n - suc k) % 256) octets₀ at i)
+
+-- a mark, stored before what stands behind it
+pub sets-before : (octets : List ℕ) (at mark : ℕ) (i : ℕ) (xs : List ℕ) → at < i → set (sets octets i xs) at mark ≡ sets (set octets at mark) i xs
+sets-before octets at mark i [] l = refl
+sets-before octets at mark i (x ∷ xs) l =
+    sets-before (set octets i x) at mark (suc i) xs (omega arith) ∙ ap (λ (o : List ℕ). sets o (suc i) xs) (set_comm octets i at x mark (λ e. omega arith))
+
+-- a store before another that was made first
+sets-swapped : (octets : List ℕ) (at i : ℕ) (ys xs : List ℕ) → at + length ys ≤ i → sets (sets octets i xs) at ys ≡ sets (sets octets at ys) i xs
+sets-swapped octets at i [] xs l = refl
+sets-swapped octets at i (y ∷ ys) xs l =
+    ap (λ (o : List ℕ). sets o (suc at) ys) (sets-before octets at y i xs (omega arith)) ∙ sets-swapped (set octets at y) (suc at) i ys xs (omega arith)
+
+-- the upper octets of a number, and the lower ones
+halves : (m n x : ℕ) → big_endian m (x / 256 ^ n) ++ big_endian n x ≡ big_endian (m + n) x
+halves m n x =
+    sym
+    (listed-add m n (λ i. x / 256 ^ (m + n - suc i) % 256)
+    ∙ ap₂ (λ (l r : List ℕ). l ++ r)
+    (listed-ext m _ _ (λ i l. upper i l))
+    (listed-ext n _ _ (λ i l. let e : m + n - suc (m + i) ≡ n - suc i = omega arith in rw e)))
+  where
+    upper : (i : ℕ) → i < m → x / 256 ^ (m + n - suc i) % 256 ≡ x / 256 ^ n / 256 ^ (m - suc i) % 256
+    upper i l =
+        let e : m + n - suc i ≡ n + (m - suc i) = omega arith in
+        rw (e, pow-add 256 n (m - suc i), ← div-div-eq-div-mul x (256 ^ n) (256 ^ (m - suc i)))
+
+-- a point's number in two halves, the lower one first, and then its mark
+pub point-stored : (octets : List ℕ) (at : ℕ) (point : DecodedValue) {mark number : ℕ} {a b : List ℕ}
+    → number ≡ twos_complement (held_by point) → a ≡ sets octets (at + 5) (big_endian 4 number) → b ≡ sets a (at + 1) (big_endian 4 (number / 4294967296))
+    → mark ≡ mark_of point → set b at mark ≡ sets octets at (point_octets point)
+point-stored octets at point {mark} {number} {a} {b} en ea eb em =
+    let upper = big_endian 4 (number / 4294967296) in
+    let lower = big_endian 4 number in
+    let size : length upper ≡ 4 = length-listed 4 (λ i. number / 4294967296 / 256 ^ (4 - suc i) % 256) in
+    let place : at + 1 + length upper ≡ at + 5 = omega arith in
+    let swapped : b ≡ sets (sets octets (at + 1) upper) (at + 1 + length upper) lower = rw (eb, ea, place) (sets-swapped octets (at + 1) (at + 5) upper lower (omega arith)) in
+    let whole : b ≡ sets octets (at + 1) (big_endian 8 number) = swapped ∙ sets-append octets (at + 1) upper lower ∙ ap (sets octets (at + 1)) (halves 4 4 number) in
+    rw (← en, ← em, whole, add-one at) (sets-before octets at mark (suc at) (big_endian 8 number) (omega arith))

@@ -7,7 +7,7 @@ ghost use mathlib.Core.List.{flat_map};
 ghost use Rattle.std.proofs.lemmas.List.Edits.{sets};
 ghost use Rattle.format.specs.Bits.{number_at};
 ghost use Rattle.format.specs.Lists.{◌over◌};
-ghost use Rattle.format.specs.Layout.{big_endian, number_size, level_size, level_octets, in_fours, point_size, point_octets, mark_of, held_by, twos_complement, group_size, group_octets};
+ghost use Rattle.format.specs.Layout.{big_endian, number_size, level_size, level_octets, point_size, point_octets, mark_of, held_by, twos_complement, group_size, group_octets};
 ghost use Rattle.format.specs.Template.{template_by};
 ghost use Rattle.laws.specs.Groups.{group_in, group-size};
 ghost use Rattle.laws.specs.Lists.{length-listed};
@@ -98,7 +98,9 @@ impl InOctets for Group {
     }
 }
 
-// "nine octets, the mark and then the number", which `to_be_bytes` has in two's complement.
+// "a point there is nine octets, the mark and then the number". A packed number's upper half is zero: stored by itself, and last
+// but for the mark, each half is one store of the machine. With `to_be_bytes` and `copy_from_slice` for all eight the compiler
+// tests each point's octets for overlap: 42 instructions a point, and not 26.
 impl InOctets for DecodedValue {
     ghost SIZE = { point_size };
 
@@ -111,8 +113,10 @@ impl InOctets for DecodedValue {
     const SIZE: usize = POINT_SIZE;
 
     fn store_at(self, octets: &mut [u8], at: usize) {
+        let pattern = held_by(self).cast_unsigned();
+        store(octets, at + 5, pattern, 4);
+        store(octets, at + 1, pattern / 4294967296, 4);
         octets[at] = mark_of(self);
-        octets[at + 1..at + POINT_SIZE].copy_from_slice(&held_by(self).to_be_bytes());
     }
 }
 
@@ -136,12 +140,14 @@ pub fn store_all<T: InOctets>(things: &[T], octets: &mut [u8])
     }
 }
 
-// Stores x from a place on, in n octets.
+// Stores x from a place on, in n octets. They go one by one: see a point's `store_at`.
 pub fn store(octets: &mut [u8], at: usize, x: u64, n: usize)
     requires { (n ≤ 8) × (at + n ≤ length octets.old) }
     ensures { octets.new ≡ sets octets.old at (big_endian n x) }
 {
-    octets[at..at + n].copy_from_slice(&x.to_be_bytes()[8 - n..]);
+    for i in 0..n {
+        octets[at + i] = places::octet_in(x, (n - 1 - i) * 8);
+    }
 }
 
 // Number k of those that take SIZE octets each: LEVEL_SIZE or NUMBER_SIZE.
@@ -157,21 +163,6 @@ pub fn number_in(octets: &[u8], k: usize) -> u32
     ensures { result ≡ number_at octets.now (k * 32) 32 }
 {
     whole_in::<NUMBER_SIZE>(octets, k)
-}
-
-// Numbers of four octets each.
-pub fn store_numbers(numbers: &[u32], octets: &mut [u8])
-    requires { length numbers.now * number_size ≤ length octets.old }
-    ensures { octets.new ≡ in_fours numbers.now over octets.old }
-{
-    store_all(numbers, octets);
-}
-
-pub fn store_group(octets: &mut [u8], k: usize, group: Group)
-    requires { (k + 1) * group_size ≤ length octets.old }
-    ensures { octets.new ≡ sets octets.old (k * group_size) (group_octets group) }
-{
-    group.store(octets, k);
 }
 
 pub fn group_in(octets: &[u8], k: usize) -> Group
@@ -213,7 +204,7 @@ pub fn store_signed(octets: &mut [u8], k: usize, number: i64)
     ensures { octets.new ≡ sets octets.old (k * point_size + 1) (big_endian 8 (twos_complement number)) }
 {
     let at = k * POINT_SIZE;
-    octets[at + 1..at + POINT_SIZE].copy_from_slice(&number.to_be_bytes());
+    store(octets, at + 1, number.cast_unsigned(), 8);
 }
 
 pub fn mark_in(octets: &[u8], k: usize) -> u8

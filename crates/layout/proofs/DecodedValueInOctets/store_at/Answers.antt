@@ -1,12 +1,15 @@
 -- A point's `store_at` meets its contract. Assumes nothing.
-use mathlib.Core.Path.{◌∙◌}
-use native.Mathlib.Omega.{arith}
-use Rattle.std.proofs.Common.{rules, slice_set, add-one, length-set}
-use Rattle.layout.proofs.Stores.{signed_stored}
+use mathlib.Core.Path.{◌≡◌, ap, ◌∙◌}
+use borrow.Author.Rules.{rules}
+use mir.Syntax.{w64}
+use mir.Val.{to_z, of_z}
+use Rattle.format.specs.Layout.{twos_complement, held_by}
+use Rattle.layout.proofs.Stores.{signed-is, point-stored}
 use Rattle.layout.proofs.DecodedValueInOctets.store_at.Goals as goal
 
 pub returns : goal.returns
 returns c =
-    let at = c.args.at in
-    rw (← c.mark_of.ensures, ← c.held_by.ensures, add-one at)
-    (signed_stored (slice_set c.args.octets.now at c.mark_of.result) _ _ c.held_by.result (search rules) (c.copy_from_slice.ensures.after ∙ c.to_be_bytes.ensures) (omega arith) (omega (arith, length-set c.args.octets.now at c.mark_of.result)))
+    let z = c.held_by.result in
+    let fits : to_z w64 (of_z w64 z) ≡ z = search rules in
+    let pattern : c.cast_unsigned-pattern.result ≡ twos_complement (held_by c.args.self) = c.cast_unsigned-pattern.ensures ∙ ap (of_z w64) (fits) ∙ signed-is z ∙ ap twos_complement c.held_by.ensures in
+    point-stored c.args.octets.now c.args.at c.args.self pattern c.store.ensures c.store-2.ensures c.mark_of.ensures
