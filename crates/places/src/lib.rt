@@ -1,4 +1,5 @@
 // Places in bits and places in octets, turned into each other by the rounding rules, the parts of a payload, and powers of two.
+// What turns a place is a function and no `From`: the two types are of crate `format`, and only that crate could give them one.
 #![tactic(auto)]
 
 ghost use Rattle.std.specs.Prelude.{◌≡◌, ◌*◌, ◌<◌, ◌≤◌, ◌^◌, ◌/◌, ◌%◌};
@@ -38,7 +39,7 @@ pub fn first_bit(place: OctetPlace) -> BitPlace
     BitPlace(place.0 * 8)
 }
 
-// A product that is far from wrapping.
+// A product that is far from wrapping. It stands for its second clause: arithmetic over places needs a bound of the product.
 pub fn times(x: usize, width: usize) -> usize
     requires { (x < 2 ^ 58) × (width ≤ 32) }
     ensures { (result ≡ x * width) × (result ≤ x * 32) }
@@ -106,26 +107,6 @@ pub fn octet_in(number: u64, after: usize) -> u8
     ensures { result ≡ number / 2 ^ after % 256 }
 {
     cut(number, after, 8) as u8
-}
-
-// Numbers of the templates, as places and counts.
-pub fn small(x: u8) -> usize
-    ensures { (result ≡ x) × (result < 256) }
-{
-    x as usize
-}
-
-pub fn size(x: u32) -> usize
-    ensures { (result ≡ x) × (result < 2 ^ 32) }
-{
-    x as usize
-}
-
-// A number that was read, as one that may grow.
-pub fn grown(x: u32) -> u64
-    ensures { (result ≡ x) × (result < 2 ^ 32) }
-{
-    x as u64
 }
 
 // "Let bits(x) be the count of binary digits of x, 0 for 0."
