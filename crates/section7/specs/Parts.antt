@@ -13,17 +13,22 @@ use Rattle.section7.specs.declared.Coding.TheVariants as coding
 
 -- ---- codes
 
--- "group references at the number width, width codes, length codes": what is coded of a group
+-- "group references at the number width, width codes, length codes": what is coded of a group, and in how many bits
+abbrev pub bits_of : Coding → ℕ
+bits_of (coding.References bits) = bits
+bits_of (coding.Widths widths) = widths.bits
+bits_of (coding.Lengths lengths) = lengths.bits
+
 abbrev pub code_of : Coding → Group → ℕ
-code_of coding.References g = g.least
-code_of (coding.Widths reference) g = g.width - reference
-code_of (coding.Lengths reference increment) g = (g.length - reference) / increment
+code_of (coding.References bits) g = g.least
+code_of (coding.Widths widths) g = g.width - widths.reference
+code_of (coding.Lengths lengths) g = (g.length - lengths.reference) / lengths.increment
 
 -- the group is no less than the reference, and there is a step to divide by
 abbrev pub CodedBy : Coding → Group → Type 0
-CodedBy coding.References g = Unit {0}
-CodedBy (coding.Widths reference) g = reference ≤ g.width
-CodedBy (coding.Lengths reference increment) g = (reference ≤ g.length) × (0 < increment)
+CodedBy (coding.References bits) g = Unit {0}
+CodedBy (coding.Widths widths) g = widths.reference ≤ g.width
+CodedBy (coding.Lengths lengths) g = (lengths.reference ≤ g.length) × (0 < lengths.increment)
 
 -- groups whose codes are there, and fit so many bits
 pub record Codable (c : Coding) (bits : ℕ) (groups : List Group) : Type 0 where

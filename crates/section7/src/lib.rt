@@ -10,10 +10,10 @@ ghost use Rattle.format.specs.Packing.{value_string, template_of, payload_of};
 ghost use Rattle.laws.specs.Groups.{own_numbers, own_groups, RecordOf};
 ghost use Rattle.writer.specs.Pen.{Ready, Moved};
 ghost use Rattle.coding.specs.Codes.{Recorded};
-ghost use Rattle.section7.specs.Parts.{code_of, Codable, values_of, group_bits, value_bits, FewBits, Countable, payload_lent};
+ghost use Rattle.section7.specs.Parts.{bits_of, code_of, Codable, values_of, group_bits, value_bits, FewBits, Countable, payload_lent};
 
 use coding::Records;
-use format::{Group, OctetPlace, Refusal, Template};
+use format::{Group, Lengths, OctetPlace, Refusal, Template, Widths};
 use numbers::Numbers;
 use writer::Pen;
 
@@ -21,27 +21,39 @@ use writer::Pen;
 // counts no answer to what a call with a closure asks.
 #[derive(Clone, Copy)]
 pub enum Coding {
-    // The least number.
-    References,
+    // The least number, at the number width.
+    References(u8),
 
     // The width less the width reference.
-    Widths(u8),
+    Widths(Widths),
 
     // The length less the length reference, in steps of the increment.
-    Lengths(u32, u8),
+    Lengths(Lengths),
 }
 
 impl Coding {
-    ghost use Rattle.section7.specs.Parts.{code_of, CodedBy};
+    ghost use Rattle.section7.specs.Parts.{bits_of, code_of, CodedBy};
+
+    fn bits(self) -> usize
+        ensures { result ≡ bits_of self }
+    {
+        match self {
+            Coding::References(bits) => bits as usize,
+            Coding::Widths(widths) => widths.bits as usize,
+            Coding::Lengths(lengths) => lengths.bits as usize,
+        }
+    }
 
     fn code_of(self, group: Group) -> u32
         requires { CodedBy self group }
         ensures { result ≡ code_of self group }
     {
         match self {
-            Coding::References => group.least,
-            Coding::Widths(reference) => group.width - reference as u32,
-            Coding::Lengths(reference, increment) => (group.length - reference) / increment as u32,
+            Coding::References(_) => group.least,
+            Coding::Widths(widths) => group.width - widths.reference as u32,
+            Coding::Lengths(lengths) => {
+                (group.length - lengths.reference) / lengths.increment as u32
+            }
         }
     }
 }
@@ -63,16 +75,16 @@ fn put_codes(coding: Coding, bits: usize, records: &Records, pen: Pen, payload: 
 // "each starting on an octet": a code of each group, and the numbers that stand behind them.
 fn write_codes(
     coding: Coding,
-    bits: usize,
     records: &Records,
     behind: &[u32],
     place: OctetPlace,
     payload: &mut [u8],
 )
-    requires codes { 0 < bits → Codable coding bits records.now × (any_of (leb (2 ^ bits)) behind.now ≡ false) }
-    requires room { place.0 + rounded_up ((length records.now + length behind.now) * bits) ≤ length payload.old }
-    ensures { payload.new ≡ sets payload.old place.0 (padded (string_of bits (map (code_of coding) records.now ++ behind.now))) }
+    requires codes { 0 < bits_of coding → Codable coding (bits_of coding) records.now × (any_of (leb (2 ^ bits_of coding)) behind.now ≡ false) }
+    requires room { place.0 + rounded_up ((length records.now + length behind.now) * bits_of coding) ≤ length payload.old }
+    ensures { payload.new ≡ sets payload.old place.0 (padded (string_of (bits_of coding) (map (code_of coding) records.now ++ behind.now))) }
 {
+    let bits = coding.bits();
     if bits == 0 {
         return;
     }
@@ -138,33 +150,13 @@ pub fn write_section7(
     if payload.len() < places.end.0 {
         return Err(Refusal::Room);
     }
-    let widths = template.widths;
-    let lengths = template.lengths;
-    write_codes(
-        Coding::References,
-        template.width as usize,
-        records,
-        &[],
-        places.references,
-        payload,
-    );
-    write_codes(
-        Coding::Widths(widths.reference),
-        widths.bits as usize,
-        records,
-        &[],
-        places.widths,
-        payload,
-    );
+    let references = Coding::References(template.width);
+    let widths = Coding::Widths(template.widths);
+    let lengths = Coding::Lengths(template.lengths);
+    write_codes(references, records, &[], places.references, payload);
+    write_codes(widths, records, &[], places.widths, payload);
     // "The last length code is written 0."
-    write_codes(
-        Coding::Lengths(lengths.reference, lengths.increment),
-        lengths.bits as usize,
-        &records.but_last(),
-        &[0],
-        places.lengths,
-        payload,
-    );
+    write_codes(lengths, &records.but_last(), &[0], places.lengths, payload);
     let pen = put_values(numbers, records, Pen::at(places.values), payload);
     pen.finish(payload);
     Ok(places.end)
