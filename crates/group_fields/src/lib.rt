@@ -65,6 +65,7 @@ fn groups_surveyed(groups: &Groups, place: usize) -> Result<Surveyed, Refusal>
 }
 
 // 1, then 2, which 5.2 and 5.3 share.
+#[tactic(auto, using(std::proofs::lemmas::Bool::Decides::nat_tests), unfolding(format::specs::Refusals::first))]
 fn check_kind(template: Template) -> Result<(), Refusal>
     ensures { result ≡ first Err (kind_refusals template) (Ok tt) }
 {
@@ -78,6 +79,7 @@ fn check_kind(template: Template) -> Result<(), Refusal>
 }
 
 // 6, then 5, which they share too.
+#[tactic(auto, using(std::proofs::lemmas::Bool::Decides::nat_tests), unfolding(format::specs::Refusals::first))]
 fn check_fields(template: Template) -> Result<(), Refusal>
     ensures { result ≡ first Err (field_refusals template) (Ok tt) }
 {
@@ -163,6 +165,7 @@ pub fn located_spatial(
 }
 
 // 9: "points do not equal the declared count, or that count is above 4,194,304".
+#[tactic(auto, using(std::proofs::lemmas::Bool::Decides::nat_tests), unfolding(format::specs::Refusals::first))]
 pub fn check_count(points: usize, declared: u32) -> Result<(), Refusal>
     ensures { result ≡ first Err (count_refusals points declared) (Ok tt) }
 {

@@ -60,7 +60,7 @@ impl Walk {
         Walk {
             group: self.group + 1,
             points: self.points + length,
-            bits: self.bits + places::times(length, width),
+            bits: self.bits + length * width,
         }
     }
 
@@ -82,7 +82,7 @@ impl<'a> Groups<'a> {
         ensures { result ≡ number_at self.now.payload.now (field.0 * 8 + g * width) width }
     {
         let bits = width as usize;
-        let place = BitPlace(places::first_bit(field).0 + places::times(g, bits));
+        let place = BitPlace(places::first_bit(field).0 + g * bits);
         stream::read_number(self.payload, place, bits)
     }
 
@@ -185,7 +185,7 @@ impl PackedGroup {
         requires { Limited self place.0 }
         ensures { result ≡ all_there self payload.now place.0 }
     {
-        let end = BitPlace(place.0 + places::times(self.length, self.width));
+        let end = BitPlace(place.0 + self.length * self.width);
         0 < self.width && places::octet_of(end).0 + 8 <= payload.len()
     }
 
@@ -210,7 +210,7 @@ impl HolderGroup {
         requires { (template.width ≤ 31) × Readable self place }
         ensures { result ≡ held_point template self payload.now place }
     {
-        let at = BitPlace(self.values.0 + places::times(place - self.first, self.width));
+        let at = BitPlace(self.values.0 + (place - self.first) * self.width);
         let value = value_at::<false>(payload, at, self.width);
         point_of(template, self.width, self.reference, value)
     }
