@@ -97,20 +97,20 @@ module _ {t : Template} {numbers : List ℕ} {groups : List Group} (h : Recorded
 
   -- ---- their codes fit
 
-  references-codable : Codable (coding.References t.width) t.width groups
+  references-codable : Codable (coding.References t.width) groups
   references-codable = record {
     top = omega (arith, passing.width);
     coded = λ k g l i. tt;
     fit = λ k g l i. rw (stored h, ap (λ (r : Group). r.least) (at-own k l i), ← e) at (reference-fits sound k l);
   }
 
-  pub references-written : 0 < t.width → Codable (coding.References t.width) t.width groups × (any_of (leb (2 ^ t.width)) [] ≡ false)
+  pub references-written : 0 < t.width → Codable (coding.References t.width) groups × (any_of (leb (2 ^ t.width)) [] ≡ false)
   references-written b = (references-codable, none-behind t.width)
 
   width-there : (k : ℕ) (g : Group) → k < length groups → IsAt groups k g → (t.widths.reference ≤ g.width) × (g.width - t.widths.reference < 2 ^ t.widths.bits)
   width-there k g l i = simp (stored h, ap (λ (r : Group). r.width) (at-own k l i), sym e) at (width-coded sound k l)
 
-  pub widths-written : 0 < t.widths.bits → Codable (coding.Widths t.widths) t.widths.bits groups × (any_of (leb (2 ^ t.widths.bits)) [] ≡ false)
+  pub widths-written : 0 < t.widths.bits → Codable (coding.Widths t.widths) groups × (any_of (leb (2 ^ t.widths.bits)) [] ≡ false)
   widths-written b = (record { top = omega (arith, passing.widths); coded = λ k g l i. (width-there k g l i).0; fit = λ k g l i. (width-there k g l i).1 }, none-behind t.widths.bits)
 
   module _ {most : List Group} (em : most ≡ take (length groups - 1) groups) where
@@ -120,7 +120,7 @@ module _ {t : Template} {numbers : List ℕ} {groups : List Group} (h : Recorded
         let j : IsAt groups k g = λ d. i d ∙ ap (λ (gs : List Group). get_or gs k d) em ∙ get_or-take (length groups - 1) groups k d m in
         simp (stored h, ap (λ (r : Group). r.length) (at-own k (omega arith) j), sym e) at (length-coded sound k m)
 
-    pub lengths-written : 0 < t.lengths.bits → Codable (coding.Lengths t.lengths) t.lengths.bits most × (any_of (leb (2 ^ t.lengths.bits)) (0 ∷ []) ≡ false)
+    pub lengths-written : 0 < t.lengths.bits → Codable (coding.Lengths t.lengths) most × (any_of (leb (2 ^ t.lengths.bits)) (0 ∷ []) ≡ false)
     lengths-written b = (
       record {
         top = omega (arith, passing.lengths);

@@ -30,11 +30,11 @@ CodedBy (coding.References bits) g = Unit {0}
 CodedBy (coding.Widths widths) g = widths.reference ≤ g.width
 CodedBy (coding.Lengths lengths) g = (lengths.reference ≤ g.length) × (0 < lengths.increment)
 
--- groups whose codes are there, and fit so many bits
-pub record Codable (c : Coding) (bits : ℕ) (groups : List Group) : Type 0 where
-  pub top : bits ≤ 32
+-- groups whose codes are there, and fit their bits
+pub record Codable (c : Coding) (groups : List Group) : Type 0 where
+  pub top : bits_of c ≤ 32
   pub coded : (k : ℕ) (g : Group) → k < length groups → IsAt groups k g → CodedBy c g
-  pub fit : (k : ℕ) (g : Group) → k < length groups → IsAt groups k g → code_of c g < 2 ^ bits
+  pub fit : (k : ℕ) (g : Group) → k < length groups → IsAt groups k g → code_of c g < 2 ^ bits_of c
 
 -- ---- values
 

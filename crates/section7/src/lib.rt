@@ -59,11 +59,12 @@ impl Coding {
 }
 
 // A code of each group.
-fn put_codes(coding: Coding, bits: usize, records: &Records, pen: Pen, payload: &mut [u8]) -> Pen
-    requires codes { Codable coding bits records.now }
-    requires ready { Ready pen (length records.now * bits) payload.old }
-    ensures { Moved pen (string_of bits (map (code_of coding) records.now)) payload.old payload.new result }
+fn put_codes(coding: Coding, records: &Records, pen: Pen, payload: &mut [u8]) -> Pen
+    requires codes { Codable coding records.now }
+    requires ready { Ready pen (length records.now * bits_of coding) payload.old }
+    ensures { Moved pen (string_of (bits_of coding) (map (code_of coding) records.now)) payload.old payload.new result }
 {
+    let bits = coding.bits();
     let mut here = pen;
     for k in 0..records.len() {
         let code = coding.code_of(records.at(k));
@@ -80,7 +81,7 @@ fn write_codes(
     place: OctetPlace,
     payload: &mut [u8],
 )
-    requires codes { 0 < bits_of coding → Codable coding (bits_of coding) records.now × (any_of (leb (2 ^ bits_of coding)) behind.now ≡ false) }
+    requires codes { 0 < bits_of coding → Codable coding records.now × (any_of (leb (2 ^ bits_of coding)) behind.now ≡ false) }
     requires room { place.0 + rounded_up ((length records.now + length behind.now) * bits_of coding) ≤ length payload.old }
     ensures { payload.new ≡ sets payload.old place.0 (padded (string_of (bits_of coding) (map (code_of coding) records.now ++ behind.now))) }
 {
@@ -88,7 +89,7 @@ fn write_codes(
     if bits == 0 {
         return;
     }
-    let pen = put_codes(coding, bits, records, Pen::at(place), payload);
+    let pen = put_codes(coding, records, Pen::at(place), payload);
     let pen = pen.put_all(behind, bits, payload);
     pen.finish(payload);
 }

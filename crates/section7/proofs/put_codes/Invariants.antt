@@ -2,8 +2,8 @@
 use Rattle.std.proofs.Common.{map, take}
 use Rattle.format.specs.Bits.{string_of}
 use Rattle.writer.specs.Pen.{Moved}
-use Rattle.section7.specs.Parts.{code_of}
+use Rattle.section7.specs.Parts.{bits_of, code_of}
 use Rattle.section7.proofs.put_codes.Given as goal
 
 abbrev pub invariant-loop-k : goal.invariant-loop-k
-invariant-loop-k l = Moved l.initial.here (string_of l.bits (take l.k (map (code_of l.coding) l.records))) l.initial.payload l.payload l.here
+invariant-loop-k l = Moved l.initial.here (string_of (bits_of l.coding) (take l.k (map (code_of l.coding) l.records))) l.initial.payload l.payload l.here
