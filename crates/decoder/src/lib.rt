@@ -67,7 +67,8 @@ fn unpack_differences(
     }
 }
 
-// Template 5.3: the points of a payload, nine octets each.
+// Template 5.3: the points of a payload, nine octets each. 5.2 and 5.3 stay two functions: each has refusals of its own, and what
+// both do stands in `check_points` and in `Groups`.
 pub fn unpack_spatial(
     template: Template,
     differencing: Differencing,

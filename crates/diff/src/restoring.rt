@@ -1,6 +1,6 @@
 // Points restored one after another, from the descriptors and the packed points.
-ghost use Rattle.std.specs.Prelude.{◌≡◌, ℕ, ◌+◌, ◌*◌, ◌<◌, ◌≤◌, length, map, pos};
-ghost use Rattle.format.specs.Bits.{number_at, field_of};
+ghost use Rattle.std.specs.Prelude.{◌≡◌, ◌+◌, ◌*◌, ◌<◌, ◌≤◌, length};
+ghost use Rattle.format.specs.Bits.{number_at};
 ghost use Rattle.format.specs.Layout.{point_size};
 ghost use Rattle.format.specs.Differences.{descriptors_of};
 ghost use Rattle.diff.specs.Kept.{bias, kept, Minimum};
@@ -8,7 +8,6 @@ ghost use Rattle.diff.specs.Restoring.{Expected, following, first_restoring, set
 
 use crate::kept::{BIAS, Kept};
 use format::{BitPlace, POINT_SIZE, Refusal};
-use std::array;
 use std::marker::Model;
 
 // As many first values as the order says, and the minimum, each with the bias added to it.
@@ -153,7 +152,7 @@ impl<const ORDER: usize> Descriptors<ORDER> {
         Ok(())
     }
 
-    // Restores all points.
+    // Restores all points, each by its place: what chunks hold once they are lent back is not known to a proof.
     pub(crate) fn restore(&self, points: &mut [u8]) -> Result<(), Refusal>
         ensures { Onward ORDER self.now (first_restoring ORDER) 0 points.old result points.new }
     {

@@ -7,7 +7,7 @@ use crate::kind::Kind;
 use crate::row_at;
 use format::{BitPlace, Differencing, Head, Refusal, Template};
 
-// Its template, and the numbers of all rows.
+// Its template, and the numbers of all rows, in the table's order: so they are lent back to the caller.
 #[derive(Drop)]
 pub(crate) struct Fields {
     pub kind: Kind,
