@@ -90,7 +90,8 @@ pub fn read_whole<const N: usize>(octets: &[u8], place: OctetPlace) -> u32
     read_gathered::<N>(gathered_there::<N>(octets, place), 0, N * 8)
 }
 
-// A place in octets that lie beside it, the width of the numbers from there on, and how many of them are left.
+// A place in octets that lie beside it, the width of the numbers from there on, and how many of them are left. It has no
+// invariant: `Inside` is what `next` asks, and the reader has an answer of its own for a cursor that is not.
 #[derive(Clone, Copy)]
 pub struct Cursor {
     pub place: BitPlace,
