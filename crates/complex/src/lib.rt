@@ -16,7 +16,8 @@ use groups::{Groups, PackedGroup, Walk};
 use layout::InOctets;
 
 // The points of a group whose values begin at a place, one by one, where eight octets are THERE from each value on or not. The
-// place moves on by the width: with a product in its stead the compiler leaves the tests for missing in the loop.
+// place moves on by the width: with a product in its stead the compiler leaves the tests for missing in the loop. Template and
+// octets come by value: behind `&Groups` each point takes 28.5 instructions, and not 26.0.
 fn store_each<const THERE: bool>(
     template: Template,
     payload: &[u8],
