@@ -42,6 +42,7 @@ impl Kind {
     }
 
     // "templates 5.2 (47 octets) and 5.3 (49)"
+    #[tactic(auto, unfolding(format::specs::Section5::section_size))]
     pub(crate) fn section_size(self) -> usize
         ensures { result ≡ section_size (number self) }
     {
@@ -52,6 +53,7 @@ impl Kind {
     }
 
     // How many rows of the table are the template's.
+    #[tactic(auto, unfolding(format::specs::Section5::field_count))]
     pub(crate) fn field_count(self) -> usize
         ensures { Counted (number self) result }
     {
