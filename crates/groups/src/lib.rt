@@ -189,7 +189,8 @@ impl PackedGroup {
         0 < self.width && places::octet_of(end).0 + 8 <= payload.len()
     }
 
-    // The point of the group whose value is at a place of its own, from where eight octets are THERE or not.
+    // The point of the group whose value is at a place of its own, from where eight octets are THERE or not. What it reads from is no
+    // part of a type with the group: that type's fact would ask more than is asked here, of groups of any length.
     pub fn point_at<const THERE: bool>(
         self,
         template: Template,

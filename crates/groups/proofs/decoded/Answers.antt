@@ -1,4 +1,5 @@
--- `groups::decoded` meets its contract. Assumes nothing.
+-- `groups::decoded` meets its contract. The check would find this with `nat_tests`; it stands here so that a failure names the
+-- equation. Assumes nothing.
 use mathlib.Core.Path.{◌≡◌, ap, ◌∙◌}
 use lib.IntN.{pos}
 use lib.Pow.{pow_pos}
