@@ -145,9 +145,13 @@ fn decoded(template: Template, width: usize, value: u32, number: u32) -> Decoded
     requires { width ≤ 31 }
     ensures { result ≡ decoded template width value number }
 {
+    // Asked first and alone, so that the compiler takes it out of the loop over a group's values.
+    if template.management == 0 {
+        return DecodedValue::Normal(i64::from(number));
+    }
     let greatest = places::power(width) - 1;
     let read = value as u64;
-    if 0 < template.management && read == greatest {
+    if read == greatest {
         return DecodedValue::Missing1;
     }
     if template.management == 2 && read + 1 == greatest {

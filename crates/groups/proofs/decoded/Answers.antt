@@ -10,6 +10,11 @@ use Rattle.groups.proofs.Decoding.{decoded-first, decoded-second, decoded-number
 use native.Mathlib.Omega.{arith}
 use Rattle.groups.proofs.decoded.Goals as goal
 
+pub returns-then-template-eq0 : goal.returns-then-template-eq0
+returns-then-template-eq0 c =
+    let is : c.from.result ≡ pos c.args.number = search in
+    rw is (ap Normal (to_z_pos w64 c.args.number (omega arith)) ∙ decoded-number _ _ _ _ (λ m e. omega arith) (λ m e. omega arith))
+
 pub returns-then-read-greatest : goal.returns-then-read-greatest
 returns-then-read-greatest c = decoded-first _ _ _ _ (omega arith) (omega arith)
 
@@ -18,5 +23,5 @@ returns-then-read-greatest-2 c = decoded-second _ _ _ _ (λ e. omega arith) (ome
 
 pub returns : goal.returns
 returns c =
-    let is : c.from.result ≡ pos c.args.number = search in
+    let is : c.from-2.result ≡ pos c.args.number = search in
     rw is (ap Normal (to_z_pos w64 c.args.number (omega arith)) ∙ decoded-number _ _ _ _ (λ m e. omega arith) (λ m e. omega (arith, pow_pos c.args.width)))
