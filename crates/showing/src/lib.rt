@@ -1,7 +1,8 @@
 // What the programs that run document 01's cases write: numbers, each after a space, and what lies in lent octets.
 #![tactic(auto)]
 
-ghost use Rattle.std.specs.Prelude.{◌<◌, ◌++◌, codes, IfSome, OnOk};
+ghost use Rattle.std.specs.Prelude.{◌≡◌, ℕ, ◌<◌, List, ◌++◌, All, codes, IfSome, OnOk};
+ghost use Rattle.std.specs.List.{flat_map};
 ghost use Rattle.std.specs.Fmt.{decimal};
 ghost use Rattle.std.specs.Io.KnownBytes.{Appends};
 
@@ -15,7 +16,10 @@ pub fn show<W: Write, N: Display + Drop>(out: &mut W, number: N) -> io::Result<(
     write!(out, " {number}")
 }
 
-pub fn show_numbers<W: Write, N: Display>(out: &mut W, numbers: &[N]) -> io::Result<()> {
+// Its promise is of numbers whose texts are known, as those of all integers are.
+pub fn show_numbers<W: Write, N: Display>(out: &mut W, numbers: &[N]) -> io::Result<()>
+    ensures { (text : N → List ℕ) → All (λ n. N.output n ≡ Some (text n)) numbers.now → OnOk result (Appends (W.contents out.old) (W.contents out.new) (flat_map (λ n. codes " " ++ text n) numbers.now)) }
+{
     for number in numbers {
         show(out, number)?;
     }
