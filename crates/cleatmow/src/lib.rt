@@ -2,7 +2,7 @@
 #![tactic(auto)]
 
 ghost use Rattle.std.specs.Prelude.{◌≡◌};
-ghost use Rattle.format.specs.Refusals.{refusal_number, fetched_number, stored_number, unpacked_number, unrolled_number, left};
+ghost use Rattle.format.specs.Refusals.{refusal_number, answer_number, left};
 ghost use Rattle.format.specs.Template.{template_by};
 ghost use Rattle.format.specs.Unpacking.{unpack52};
 ghost use Rattle.format.specs.Differences.{unpack53};
@@ -14,38 +14,22 @@ ghost use Rattle.format.specs.Layout.{numbers_in, levels_in};
 ghost use Rattle.format.specs.Packing.{pack};
 ghost use Rattle.cleatmow.specs.Calls.{called, given_differencing, called_point, called_write, called_pack};
 
-use format::{Differencing, Fetched, Packed, Picked, Refusal, Stored, Unpacked, Unrolled};
+use format::{Differencing, Refusal};
 
 // "A refusal carries its number and nothing else."
 pub fn refusal_number(refusal: Refusal) -> u32
     ensures { result ≡ refusal_number refusal }
 {
-    match refusal {
-        Refusal::Splitting => 1,
-        Refusal::Management => 2,
-        Refusal::Order => 3,
-        Refusal::Descriptors => 4,
-        Refusal::Width => 5,
-        Refusal::GroupCount => 6,
-        Refusal::Short => 7,
-        Refusal::GroupSize => 8,
-        Refusal::Points => 9,
-        Refusal::Room => 10,
-        Refusal::Repeat => 11,
-        Refusal::Beyond => 12,
-        Refusal::Numbers => 13,
-        Refusal::Section5 => 14,
-        Refusal::Place => 15,
-    }
+    refusal as u32
 }
 
 // "The call returns the refusal's number, or 0."
-fn unpacked_number(unpacked: Unpacked) -> u32
-    ensures { result ≡ unpacked_number unpacked }
+fn answer_number<T: Drop>(answer: Result<T, Refusal>) -> u32
+    ensures { result ≡ answer_number answer }
 {
-    match unpacked {
-        Unpacked::Points(_) => 0,
-        Unpacked::Refused(refusal) => refusal_number(refusal),
+    match answer {
+        Ok(_) => 0,
+        Err(refusal) => refusal_number(refusal),
     }
 }
 
@@ -65,12 +49,12 @@ pub fn cleatmow_unpack_complex(
     payload: &[u8],
     points: &mut [u8],
 ) -> u32
-    ensures { left result points.new ≡ called unpacked_number (unpack52 (template_by bits splitting missing groups widthref widthbits lenref leninc lenlast lenbits) declared payload.now points.old) }
+    ensures { left result points.new ≡ called (unpack52 (template_by bits splitting missing groups widthref widthbits lenref leninc lenlast lenbits) declared payload.now points.old) }
 {
     let template = layout::template_by(
         bits, splitting, missing, groups, widthref, widthbits, lenref, leninc, lenlast, lenbits,
     );
-    unpacked_number(decoder::unpack_complex(template, declared, payload, points))
+    answer_number(decoder::unpack_complex(template, declared, payload, points))
 }
 
 // Template 5.3: the same numbers, then the order and the octets of a descriptor.
@@ -91,40 +75,34 @@ pub fn cleatmow_unpack_spatial(
     payload: &[u8],
     points: &mut [u8],
 ) -> u32
-    ensures { left result points.new ≡ called unpacked_number (unpack53 (template_by bits splitting missing groups widthref widthbits lenref leninc lenlast lenbits) (given_differencing order octets) declared payload.now points.old) }
+    ensures { left result points.new ≡ called (unpack53 (template_by bits splitting missing groups widthref widthbits lenref leninc lenlast lenbits) (given_differencing order octets) declared payload.now points.old) }
 {
     let template = layout::template_by(
         bits, splitting, missing, groups, widthref, widthbits, lenref, leninc, lenlast, lenbits,
     );
     let differencing = Differencing { order, octets };
-    unpacked_number(decoder::unpack_spatial(template, differencing, declared, payload, points))
+    answer_number(decoder::unpack_spatial(template, differencing, declared, payload, points))
 }
 
 // Section 5's fields, four octets each, one for each row of its table.
 pub fn cleatmow_read_section5(section5: &[u8], fields: &mut [u8]) -> u32
-    ensures { left result fields.new ≡ called fetched_number (read_section5 section5.now fields.old) }
+    ensures { left result fields.new ≡ called (read_section5 section5.now fields.old) }
 {
-    match section5::read_section5(section5, fields) {
-        Fetched::Done => 0,
-        Fetched::Refused(refusal) => refusal_number(refusal),
-    }
+    answer_number(section5::read_section5(section5, fields))
 }
 
 // Section 5 of such fields.
 pub fn cleatmow_write_section5(fields: &[u8], section5: &mut [u8]) -> u32
-    ensures { left result section5.new ≡ called stored_number (write_section5 (numbers_in fields.now) section5.old) }
+    ensures { left result section5.new ≡ called (write_section5 (numbers_in fields.now) section5.old) }
 {
-    match section5::write_section5(fields, section5) {
-        Stored::Span(_) => 0,
-        Stored::Refused(refusal) => refusal_number(refusal),
-    }
+    answer_number(section5::write_section5(fields, section5))
 }
 
 // The points of a payload under the template that Section 5 names, nine octets each.
 pub fn cleatmow_unpack(section5: &[u8], payload: &[u8], points: &mut [u8]) -> u32
-    ensures { left result points.new ≡ called unpacked_number (unpack_section5 section5.now payload.now points.old) }
+    ensures { left result points.new ≡ called (unpack_section5 section5.now payload.now points.old) }
 {
-    unpacked_number(decoder::unpack(section5, payload, points))
+    answer_number(decoder::unpack(section5, payload, points))
 }
 
 // One point of a payload under template 5.2, from its place in the list: its mark, and its number.
@@ -137,14 +115,12 @@ pub fn cleatmow_point(
 ) -> u32
     ensures { record { number = result; mark = mark.new; held = number.new } ≡ called_point (point_section5 place section5.now payload.now) mark.old number.old }
 {
-    match point::point(section5, payload, place) {
-        Picked::Refused(refusal) => refusal_number(refusal),
-        Picked::Point(point) => {
-            *mark = layout::mark_of(point);
-            *number = layout::held_by(point);
-            0
-        }
+    let answer = point::point(section5, payload, place);
+    if let Ok(point) = answer {
+        *mark = layout::mark_of(point);
+        *number = layout::held_by(point);
     }
+    answer_number(answer)
 }
 
 // Template 7.200: the levels of a payload, two octets each.
@@ -155,12 +131,9 @@ pub fn cleatmow_run_length(
     payload: &[u8],
     levels: &mut [u8],
 ) -> u32
-    ensures { left result levels.new ≡ called unrolled_number (run_length bits greatest declared payload.now levels.old) }
+    ensures { left result levels.new ≡ called (run_length bits greatest declared payload.now levels.old) }
 {
-    match run_length::run_length(bits, greatest, declared, payload, levels) {
-        Unrolled::Levels(_) => 0,
-        Unrolled::Refused(refusal) => refusal_number(refusal),
-    }
+    answer_number(run_length::run_length(bits, greatest, declared, payload, levels))
 }
 
 // Levels, two octets each, as a payload of template 7.200, and how many octets that has.
@@ -173,13 +146,11 @@ pub fn cleatmow_write_run_length(
 ) -> u32
     ensures { record { number = result; payload = payload.new; octets = octets.new } ≡ called_write (write_run_length bits greatest (levels_in levels.now) payload.old) octets.old }
 {
-    match runs::write_run_length(bits, greatest, levels, payload) {
-        Stored::Refused(refusal) => refusal_number(refusal),
-        Stored::Span(span) => {
-            *octets = span.0 as u32;
-            0
-        }
+    let answer = runs::write_run_length(bits, greatest, levels, payload);
+    if let Ok(span) = answer {
+        *octets = span.0 as u32;
     }
+    answer_number(answer)
 }
 
 // Packing: the groups of a list, sixteen octets each, the payload, and the summary of 40 octets.
@@ -192,8 +163,5 @@ pub fn cleatmow_pack(
 ) -> u32
     ensures { record { number = result; groups = groups.new; payload = payload.new; summary = summary.new } ≡ called_pack (pack lookahead (numbers_in numbers.now) groups.old payload.old summary.old) }
 {
-    match encoder::pack(lookahead, numbers, groups, payload, summary) {
-        Packed::Payload(_, _) => 0,
-        Packed::Refused(refusal) => refusal_number(refusal),
-    }
+    answer_number(encoder::pack(lookahead, numbers, groups, payload, summary))
 }

@@ -3,7 +3,7 @@
 #![tactic(auto)]
 
 ghost use Rattle.std.specs.Prelude.{◌≡◌};
-ghost use Rattle.format.specs.Refusals.{fetched_number, stored_number, unpacked_number, unrolled_number, left};
+ghost use Rattle.format.specs.Refusals.{left};
 ghost use Rattle.format.specs.Template.{template_by};
 ghost use Rattle.format.specs.Unpacking.{unpack52};
 ghost use Rattle.format.specs.Differences.{unpack53};
@@ -32,7 +32,7 @@ pub extern "C" fn cleatmow_unpack_complex(
     payload: &[u8],
     points: &mut [u8],
 ) -> u32
-    ensures { left result points.new ≡ called unpacked_number (unpack52 (template_by bits splitting missing groups widthref widthbits lenref leninc lenlast lenbits) declared payload.now points.old) }
+    ensures { left result points.new ≡ called (unpack52 (template_by bits splitting missing groups widthref widthbits lenref leninc lenlast lenbits) declared payload.now points.old) }
 {
     cleatmow::cleatmow_unpack_complex(
         declared, bits, splitting, missing, groups, widthref, widthbits, lenref, leninc, lenlast,
@@ -59,7 +59,7 @@ pub extern "C" fn cleatmow_unpack_spatial(
     payload: &[u8],
     points: &mut [u8],
 ) -> u32
-    ensures { left result points.new ≡ called unpacked_number (unpack53 (template_by bits splitting missing groups widthref widthbits lenref leninc lenlast lenbits) (given_differencing order octets) declared payload.now points.old) }
+    ensures { left result points.new ≡ called (unpack53 (template_by bits splitting missing groups widthref widthbits lenref leninc lenlast lenbits) (given_differencing order octets) declared payload.now points.old) }
 {
     cleatmow::cleatmow_unpack_spatial(
         declared, bits, splitting, missing, groups, widthref, widthbits, lenref, leninc, lenlast,
@@ -70,7 +70,7 @@ pub extern "C" fn cleatmow_unpack_spatial(
 // Section 5's fields, four octets each, one for each row of its table.
 #[unsafe(no_mangle)]
 pub extern "C" fn cleatmow_read_section5(section5: &[u8], fields: &mut [u8]) -> u32
-    ensures { left result fields.new ≡ called fetched_number (read_section5 section5.now fields.old) }
+    ensures { left result fields.new ≡ called (read_section5 section5.now fields.old) }
 {
     cleatmow::cleatmow_read_section5(section5, fields)
 }
@@ -78,7 +78,7 @@ pub extern "C" fn cleatmow_read_section5(section5: &[u8], fields: &mut [u8]) -> 
 // Section 5 of such fields.
 #[unsafe(no_mangle)]
 pub extern "C" fn cleatmow_write_section5(fields: &[u8], section5: &mut [u8]) -> u32
-    ensures { left result section5.new ≡ called stored_number (write_section5 (numbers_in fields.now) section5.old) }
+    ensures { left result section5.new ≡ called (write_section5 (numbers_in fields.now) section5.old) }
 {
     cleatmow::cleatmow_write_section5(fields, section5)
 }
@@ -86,7 +86,7 @@ pub extern "C" fn cleatmow_write_section5(fields: &[u8], section5: &mut [u8]) ->
 // The points of a payload under the template that Section 5 names, nine octets each.
 #[unsafe(no_mangle)]
 pub extern "C" fn cleatmow_unpack(section5: &[u8], payload: &[u8], points: &mut [u8]) -> u32
-    ensures { left result points.new ≡ called unpacked_number (unpack_section5 section5.now payload.now points.old) }
+    ensures { left result points.new ≡ called (unpack_section5 section5.now payload.now points.old) }
 {
     cleatmow::cleatmow_unpack(section5, payload, points)
 }
@@ -114,7 +114,7 @@ pub extern "C" fn cleatmow_run_length(
     payload: &[u8],
     levels: &mut [u8],
 ) -> u32
-    ensures { left result levels.new ≡ called unrolled_number (run_length bits greatest declared payload.now levels.old) }
+    ensures { left result levels.new ≡ called (run_length bits greatest declared payload.now levels.old) }
 {
     cleatmow::cleatmow_run_length(bits, greatest, declared, payload, levels)
 }

@@ -1,6 +1,7 @@
--- `cleatmow::cleatmow_unpack_complex` meets its contract. Assumes nothing.
-use Rattle.cleatmow.proofs.Calls.{complex-called}
+-- `cleatmow::cleatmow_unpack_complex` meets its contract, by the equations of the calls behind it. Assumes nothing.
 use Rattle.cleatmow.proofs.cleatmow_unpack_complex.Goals as goal
 
 pub returns : goal.returns
-returns c = search complex-called
+returns c =
+    let e = rw c.template_by-template.ensures at c.unpack_complex.ensures in
+    rw (← e, c.answer_number.ensures)
