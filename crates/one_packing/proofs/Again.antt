@@ -11,7 +11,6 @@ use lib.Seq.{ext_get_or}
 use lib.IntN.{pos, negsuc}
 use Rattle.format.specs.Lists.{any_of, ◌over◌}
 use Rattle.format.specs.Layout.{mark_of, point_octets}
-use Rattle.format.specs.Refusals.{unpacked_number}
 use Rattle.format.specs.declared.DecodedValue.{DecodedValue}
 use Rattle.format.specs.declared.DecodedValue.TheVariants.{Normal, Missing1, Missing2}
 use Rattle.laws.specs.First.{tests}
@@ -41,7 +40,7 @@ taken k ahead sent demanded =
     let many : length (map held_number points) ≡ length points = length-map held_number points in
     let octets = flat_map point_octets points in
     let own : Answered sent (length points) octets (octets over octets) =
-    answered sent (length points) octets (octets over octets) (ap (called unpacked_number) (demanded.accepted octets (omega (arith, size-points points)))) in
+    answered sent (length points) octets (octets over octets) (ap called (demanded.accepted octets (omega (arith, size-points points)))) in
     let none_above : any_of (ltb 2147483647) (map held_number points) ≡ false =
     any-not (ltb 2147483647) (map held_number points) 0 (λ j l. le-ltb 2147483647 (get_or (map held_number points) j 0) (omega (arith, demanded.small j (omega (arith, many))))) in
     record {

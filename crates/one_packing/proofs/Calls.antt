@@ -1,5 +1,5 @@
 -- What the calls ensure gives demand 3 of what their callers hold. Assumes nothing.
-use mathlib.Core.Path.{◌≡◌, refl, sym, ap, ap₂, subst, ◌∙◌}
+use mathlib.Core.Path.{◌≡◌, refl, sym, ap, subst, ◌∙◌}
 use mathlib.Core.List.{List, ◌++◌, map, flat_map}
 use Prim.Native.Nat.{ℕ, suc, ◌+◌, ◌-◌, ◌*◌, ◌/◌, ◌%◌, ◌^◌, ◌≤◌, ◌<◌}
 use native.Mathlib.Nat.{add-zero, zero-add}
@@ -10,11 +10,10 @@ use lib.IntN.{pos, negsuc}
 use Rattle.format.specs.Lists.{whole_ones, ◌over◌}
 use Rattle.format.specs.Bits.{number_at}
 use Rattle.format.specs.Layout.{number_size, in_fours, numbers_in, point_size, point_octets, mark_of}
-use Rattle.format.specs.Refusals.{Left, left, unpacked_number, packed_number}
+use Rattle.format.specs.Refusals.{Left, left, answer_number}
 use Rattle.format.specs.Packing.{template_of, packing_of, summary_numbers, pack}
 use Rattle.format.specs.declared.DecodedValue.{DecodedValue}
 use Rattle.format.specs.declared.DecodedValue.TheVariants.{Normal, Missing1, Missing2}
-use Rattle.format.specs.declared.Template.{Template}
 use Rattle.laws.specs.Lists.{length-listed, get_or-listed, length-map, map_at}
 use Rattle.laws.specs.Stores.{flat-at, number-back}
 use Rattle.laws.specs.Groups.{number-read-back}
@@ -102,10 +101,10 @@ module _ (k : ℕ) (numbers : List ℕ) (able : Acceptable k numbers) where
   packed-back groups payload summary room back e =
       let given = by-packing k numbers able groups payload summary room in
       let limits = (round_trip 0 k numbers able).limits in
-      let answer : back.number ≡ 0 = ap (λ (c : PackCall). c.number) e ∙ ap (λ (g : Given). packed_number g.answer) given in
-      let octets : back.payload ≡ sent.payload over payload = ap (λ (c : PackCall). c.payload) e ∙ ap (λ (g : Given). g.payload) given in
+      let answer : back.number ≡ 0 = rw e (ap (λ (g : Given). answer_number g.answer) given) in
+      let octets : back.payload ≡ sent.payload over payload = rw e (ap (λ (g : Given). g.payload) given) in
       let ten = summary_numbers sent.template sent.template.groups (length sent.payload) in
-      let forty : back.summary ≡ in_fours ten over summary = ap (λ (c : PackCall). c.summary) e ∙ ap (λ (g : Given). g.summary) given in
+      let forty : back.summary ≡ in_fours ten over summary = rw e (ap (λ (g : Given). g.summary) given) in
       let n : (j : ℕ) → j < 10 → get_or ten j 0 < 2 ^ 32 → four_at back.summary j ≡ get_or ten j 0 = λ j l h. rw forty (number-read-back _ ten j l h) in
       let length-is : four_at back.summary 9 ≡ length sent.payload = n 9 (omega arith) (omega (arith, limits.payload)) in
       let cut : take (four_at back.summary 9) back.payload ≡ sent.payload = rw (length-is, octets) (take_at sent.payload _ (length sent.payload) refl) in
@@ -121,7 +120,7 @@ module _ (k : ℕ) (numbers : List ℕ) (able : Acceptable k numbers) where
         n 7 (omega arith) (omega (arith, limits.length-bits)),
       )
       kinds-are in
-      (answer, ap₂ (λ (t : Template) (o : List ℕ). record { template = t; payload = o }) template cut)
+      (answer, rw (template, cut))
 
 -- ---- what was packed is unpacked
 
@@ -134,7 +133,7 @@ answer-of u e = answered (given u) u.declared u.lent u.points (ap (λ (n : ℕ).
 -- a call of unpacking answers 0 where its packing is accepted, its count declared, and room lent
 unpacks : (u : UnpackMade) → Accepted (given u) → length (points_in (given u)) ≡ u.declared → u.declared * point_size ≤ length u.lent → u.number ≡ 0
 unpacks u accepted count room =
-    let e = ap (called unpacked_number) (accepted u.lent (omega (arith, count))) in
+    let e = ap called (accepted u.lent (omega (arith, count))) in
     ap (λ (x : Left ℕ). x.answer) (u.ensured ∙ sym (rw count at e))
 
 -- what a call of packing gave, unpacked
@@ -146,13 +145,13 @@ module _ (k : ℕ) (p : PackMade) (v : UnpackMade) (able : Acceptable k (numbers
   long = length-listed (whole_ones number_size p.numbers) (λ j. number_at p.numbers (0 + j * 32) 32) ∙ sym r.declared
 
   resent : given v ≡ packed_by 0 k packed
-  resent = ap₂ (λ (t : Template) (o : List ℕ). record { template = t; payload = o }) r.template r.payload ∙ gave
+  resent = rw (r.template, r.payload) gave
 
   points-resent : points_in (given v) ≡ map number_point packed
   points-resent = ap points_in resent ∙ (round_trip 0 k packed able).points
 
   count-resent : length (points_in (given v)) ≡ v.declared
-  count-resent = ap length points-resent ∙ length-map number_point packed ∙ long
+  count-resent = rw (points-resent, length-map) long
 
   zero-resent : v.number ≡ 0
   zero-resent = unpacks v (subst Accepted (sym resent) (round_trip 0 k packed able).accepted) count-resent r.room
@@ -176,7 +175,7 @@ pub round-trip-of-calls : RoundTripOfCalls
 round-trip-of-calls p v zero-packed r =
     let k = p.lookahead in
     let numbers = numbers_in p.numbers in
-    let e : packed_number (pack k numbers p.groups p.payload p.summary).answer ≡ 0 = sym (ap (λ (c : PackCall). c.number) p.ensured) ∙ zero-packed in
+    let e : answer_number (pack k numbers p.groups p.payload p.summary).answer ≡ 0 = rw p.ensured at zero-packed in
     let able = by-packing-alone k numbers p.groups p.payload p.summary e in
     let gave = packed-back k numbers able.0 p.groups p.payload p.summary able.1 p.back p.ensured in
     (zero-resent k p v able.0 gave.1 r, turned-resent k p v able.0 gave.1 r)

@@ -15,11 +15,11 @@ use Rattle.format.specs.Grouping.{digits_in, bits, width_of, ends_before, groups
 use Rattle.format.specs.Packing.{template_of, packing_of, pack_by, pack}
 use Rattle.format.specs.declared.DecodedValue.{DecodedValue}
 use Rattle.format.specs.declared.DecodedValue.TheVariants.{Missing1}
-use Rattle.format.specs.declared.Packed.TheVariants as packed
 use Rattle.format.specs.declared.Refusal.TheVariants.{Numbers}
 use Rattle.format.specs.declared.Template.{Template}
 use Rattle.one_packing.specs.Claims.{Sent, points_in, numbers_of, Accepted, packed_by, again}
 use Rattle.one_packing.proofs.Accepting.{answered}
+use Rattle.std.specs.declared.result.Result.TheVariants.{Err}
 
 abbrev sent : Template → List ℕ → Sent
 sent t payload = record { template = t; payload = payload }
@@ -47,7 +47,7 @@ missing-points = (
 
 -- a packing whose numbers packing refuses, whatever is lent
 abbrev RefusedAgain : Sent → Type 0
-RefusedAgain a = Accepted a × ((groups payload summary : List ℕ) → (pack 1 (numbers_of a) groups payload summary).answer ≡ packed.Refused Numbers)
+RefusedAgain a = Accepted a × ((groups payload summary : List ℕ) → (pack 1 (numbers_of a) groups payload summary).answer ≡ Err Numbers)
 
 -- no number above 2,147,483,647: document 01's packing of 2,147,483,648
 pub number-above : RefusedAgain (sent (template 0 31 1 1 0 0 0 1 0) (0xFF ∷ 0xFF ∷ 0xFF ∷ 0xFE ∷ 0x80 ∷ []))

@@ -16,7 +16,6 @@ use Rattle.format.specs.Grouping.{width_of, groups_of, number_refusals}
 use Rattle.format.specs.Unpacking.{Codes, codes_of, group_width, group_length, points_before, said_by, wrong_group, places_of, counted_refusals, counted52, refusals52, unpack52}
 use Rattle.format.specs.Packing.{template_of, payload_of, packing_of}
 use Rattle.format.specs.declared.Template.{Template}
-use Rattle.format.specs.declared.Unpacked.TheVariants as unpacked
 use Rattle.laws.specs.First.{Clear, clears, clear-join, clear-row, among, tests}
 use Rattle.laws.specs.Lists.{length-listed, get_or-listed, length-map, any_none, any-not}
 use Rattle.laws.specs.Extremes.{greatest-each}
@@ -27,6 +26,7 @@ use Rattle.laws.specs.Points.{length-points}
 use Rattle.laws.specs.Codings.{codes_for, own-width, own-length, OutOf, out_of, template-coded, width-out-of, widths-limits, lengths-limits, template-passing, payload-short}
 use Rattle.one_packing.specs.Claims.{Sent, points_in, number_point, Accepted, WithinLimits, RoundTrip}
 use Rattle.one_packing.proofs.Points.{packed-codes, packed-end, packed-points}
+use Rattle.std.specs.declared.result.Result.TheVariants.{Err}
 
 module _ (numbers : List ℕ) (groups : List (List ℕ)) (e : all_of groups ≡ numbers) (none : NoneEmpty groups)
     (some : 0 < length numbers) (few : length numbers ≤ limit) (small : greatest numbers ≤ 2147483647) where
@@ -126,7 +126,7 @@ module _ (numbers : List ℕ) (groups : List (List ℕ)) (e : all_of groups ≡ 
       let declared = length (points_in sent) in
       let octets = length (payload_of t groups) in
       let own = codes_of 0 t (payload_of t groups) in
-      clears (λ r. left (unpacked.Refused r) lent) (refusals52 t declared octets own lent) _
+      clears (λ r. left (Err r) lent) (refusals52 t declared octets own lent) _
       (clear-join (counted52 t declared octets own) (room_refusals point_size lent declared)
       (clear-join (kind_refusals t) (counted_refusals 0 t declared octets own) kinds (counted-too declared n))
       (omega (arith, tests)))

@@ -4,7 +4,7 @@ use Rattle.std.specs.Prelude.{◌≡◌, ◌↔◌, List, ℕ, ◌+◌, ◌*◌,
 use Rattle.format.specs.Lists.{whole_ones}
 use Rattle.format.specs.Bits.{number_at}
 use Rattle.format.specs.Layout.{number_size, numbers_in, point_size}
-use Rattle.format.specs.Refusals.{left, unpacked_number}
+use Rattle.format.specs.Refusals.{left}
 use Rattle.format.specs.Template.{template_by}
 use Rattle.format.specs.Unpacking.{unpack52}
 use Rattle.format.specs.Packing.{pack}
@@ -21,7 +21,7 @@ pub record UnpackMade : Type 0 where
   pub lent : List ℕ
   pub number : ℕ
   pub points : List ℕ
-  pub ensured : left number points ≡ called unpacked_number (unpack52 template declared payload lent)
+  pub ensured : left number points ≡ called (unpack52 template declared payload lent)
 
 pub record PackMade : Type 0 where
   pub lookahead : ℕ

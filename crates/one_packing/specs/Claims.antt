@@ -3,17 +3,18 @@ use Rattle.std.specs.Prelude.{◌≡◌, ◌↔◌, ℕ, ◌*◌, ◌≤◌, ◌
 use mathlib.Core.List.{List, map, flat_map}
 use Rattle.format.specs.Lists.{◌over◌}
 use Rattle.format.specs.Layout.{in_fours, point_size, point_octets, mark_of, held_by, twos_complement, group_size}
-use Rattle.format.specs.Refusals.{limit, left, packed_number}
+use Rattle.format.specs.Refusals.{limit, left, answer_number}
 use Rattle.format.specs.Unpacking.{codes_of, group_width, group_length, said_by, points_up_to, unpack52}
 use Rattle.format.specs.Grouping.{width_of, groups_of, number_refusals}
 use Rattle.format.specs.Packing.{packing_of, summary_numbers, summary_size, LeftPacked, pack}
 use Rattle.format.specs.declared.DecodedValue.{DecodedValue}
 use Rattle.format.specs.declared.DecodedValue.TheVariants.{Normal, Missing1}
 use Rattle.format.specs.declared.Packed.{Packed}
-use Rattle.format.specs.declared.Packed.TheVariants as packed
+use Rattle.format.specs.declared.Refusal.{Refusal}
 use Rattle.format.specs.declared.Template.{Template}
-use Rattle.format.specs.declared.Unpacked.TheVariants as unpacked
 use Rattle.laws.specs.First.{Clear}
+use Rattle.std.specs.declared.result.Result.{Result}
+use Rattle.std.specs.declared.result.Result.TheVariants.{Ok}
 
 -- ---- a packing under template 5.2, as it is sent: by our packer or by any other
 
@@ -41,7 +42,7 @@ number_point number = Normal (pos number)
 abbrev pub Accepted : Sent → Type 0
 Accepted sent =
     (lent : List ℕ) → length (points_in sent) * point_size ≤ length lent
-    → left (unpacked.Points (length (points_in sent))) (flat_map point_octets (points_in sent) over lent)
+    → left (Ok (length (points_in sent))) (flat_map point_octets (points_in sent) over lent)
     ≡ unpack52 sent.template (length (points_in sent)) sent.payload lent
 
 -- "accepted 5.2 packings (at least one point, none missing, no number above 2,147,483,647)"
@@ -79,7 +80,7 @@ pub record EnoughRoom (sent : Sent) (groups payload summary : List ℕ) : Type 0
 
 -- what packing gives, besides the group list
 pub record Given : Type 0 where
-  pub answer : Packed
+  pub answer : Result Packed Refusal
   pub payload : List ℕ
   pub summary : List ℕ
 
@@ -92,7 +93,7 @@ Packs k numbers sent =
     (groups payload summary : List ℕ) → EnoughRoom sent groups payload summary
     → given_by (pack k numbers groups payload summary)
     ≡ record {
-      answer = packed.Payload sent.template (record { 0 = length sent.payload });
+      answer = Ok (record { template = sent.template; octets = record { 0 = length sent.payload } });
       payload = sent.payload over payload;
       summary = in_fours (summary_numbers sent.template sent.template.groups (length sent.payload)) over summary;
     }
@@ -151,7 +152,7 @@ ByPacking = (k : ℕ) (numbers : List ℕ) → Acceptable k numbers → Packs k 
 
 abbrev pub ByPackingAlone : Type 0
 ByPackingAlone =
-    (k : ℕ) (numbers groups payload summary : List ℕ) → packed_number (pack k numbers groups payload summary).answer ≡ 0
+    (k : ℕ) (numbers groups payload summary : List ℕ) → answer_number (pack k numbers groups payload summary).answer ≡ 0
     → Acceptable k numbers × EnoughRoom (packed_by 0 k numbers) groups payload summary
 
 -- Demand 3, whole
