@@ -15,7 +15,9 @@ use Rattle.writer.specs.declared.Pen.{Pen}
 use Rattle.writer.proofs.Pens.{moved_then, moved_ready}
 use Rattle.writer.proofs.Jobs.{number-ready, number-moved}
 use Rattle.coding.specs.Codes.{IsAt, Recorded}
-use Rattle.section7.specs.Parts.{values_of, group_bits, value_bits, Countable}
+use native.Mathlib.Nat.{mul-le-mul}
+use Rattle.format.specs.Refusals.{limit}
+use Rattle.section7.specs.Parts.{FewBits, values_of, group_bits, value_bits, Countable}
 
 -- ---- a group
 
@@ -55,6 +57,9 @@ module _ {numbers : List ℕ} {r : Group} (h : RecordOf numbers r) where
   values-moved k l m = rw (← values-are) (rw (take_all k values (omega (arith, count-values))) at m)
 
 -- ---- their bits
+
+pub few-bits : {g : Group} → FewBits g → group_bits g ≤ limit * 32
+few-bits h = mul-le-mul h.short h.narrow
 
 module _ (groups : List Group) (k : ℕ) {g : Group} (l : k < length groups) (e : IsAt groups k g) where
   pub bits-next : {bits more : ℕ} → bits ≡ value_bits (take k groups) → more ≡ group_bits g → bits + more ≡ value_bits (take (k + 1) groups)

@@ -131,7 +131,7 @@ fn value_bits(records: &Records) -> usize
     let mut bits = 0;
     for k in 0..records.len() {
         let group = records.at(k);
-        bits += places::times(group.length as usize, group.width as usize);
+        bits += group.length as usize * group.width as usize;
     }
     bits
 }
