@@ -9,7 +9,7 @@ unfolding gathered
 loop-k-init g c = refl
 
 pub overflow_add-number-in-loop-k : goal.overflow_add-number-in-loop-k
-overflow_add-number-in-loop-k g c = turn_fits _ (λ k. omega (arith, c.type_inv.octets k)) _ _ _ (omega arith) (omega arith) c.loop-k.invariant
+overflow_add-number-in-loop-k g c = omega (arith, turn_fits c.args.octets.now (λ k. omega (arith, c.type_inv.octets k)) c.args.place.0 g.row.N c.loop-k.k (omega arith) (omega arith) c.loop-k.invariant)
 
 pub loop-k-preserved : goal.loop-k-preserved
-loop-k-preserved g c = gathered-turn _ (λ k. omega (arith, c.type_inv.octets k)) _ _ _ (omega arith) (omega arith) c.loop-k.invariant
+loop-k-preserved g c = omega (arith, gathered-turn c.args.octets.now (λ k. omega (arith, c.type_inv.octets k)) c.args.place.0 g.row.N c.loop-k.k (omega arith) (omega arith) c.loop-k.invariant)
