@@ -39,14 +39,6 @@ pub fn first_bit(place: OctetPlace) -> BitPlace
     BitPlace(place.0 * 8)
 }
 
-// A product that is far from wrapping. It stands for its second clause: arithmetic over places needs a bound of the product.
-pub fn times(x: usize, width: usize) -> usize
-    requires { (x < 2 ^ 58) × (width ≤ 32) }
-    ensures { (result ≡ x * width) × (result ≤ x * 32) }
-{
-    x * width
-}
-
 // The octets that a field spans, of any list's length: eight numbers of width w span w octets, so that the bits, which may
 // pass 64 bits of arithmetic, are never counted.
 pub fn span(start: BitPlace, width: usize, count: usize) -> OctetPlace
