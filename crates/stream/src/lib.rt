@@ -12,15 +12,15 @@ use format::{BitPlace, OctetPlace, Refusal};
 use std::array;
 
 // Document 02, No. 2: "Gather the octets that a number touches, at most five, into one 64-bit number, then shift once and take a
-// remainder." Every number that is read out of octets is read here. It has `width` bits, from bit `bit` of the first of N gathered
-// octets on: `cut` shifts once, past the bits behind it, and takes one remainder. Octets that were gathered and that it does not
-// touch do not matter (specs/Claims.antt).
+// remainder." Every number that is read out of octets is read here. It has `width` bits, from bit `bit` of the first of `count`
+// gathered octets on: `cut` shifts once, past the bits behind it, and takes one remainder. Octets that were gathered and that it
+// does not touch do not matter (specs/Claims.antt).
 #[tactic(auto, using(crate::proofs::Numbers::cut_fits))]
-pub fn read_gathered<const N: usize>(gathered: u64, bit: usize, width: usize) -> u32
-    requires { (N ≤ 8) × (bit + width ≤ N * 8) × (N * 8 < 64 + bit + width) × (width ≤ 32) }
-    ensures { result ≡ gathered / 2 ^ (N * 8 - bit - width) % 2 ^ width }
+pub fn read_gathered(gathered: u64, count: usize, bit: usize, width: usize) -> u32
+    requires { (count ≤ 8) × (bit + width ≤ count * 8) × (count * 8 < 64 + bit + width) × (width ≤ 32) }
+    ensures { result ≡ gathered / 2 ^ (count * 8 - bit - width) % 2 ^ width }
 {
-    places::cut(gathered, N * 8 - bit - width, width) as u32
+    places::cut(gathered, count * 8 - bit - width, width) as u32
 }
 
 // "Gather the octets .. into one 64-bit number": N octets that are there. The last of them comes first: then the compiler makes
@@ -56,7 +56,7 @@ pub fn read_in_octet(octets: &[u8], octet: OctetPlace, bit: usize, width: usize)
     requires { (octet.0 < 2 ^ 63) × (bit ≤ 7) × (width ≤ 32) }
     ensures { result ≡ number_at octets.now (octet.0 * 8 + bit) width }
 {
-    read_gathered::<5>(five_from(octets, octet), bit, width)
+    read_gathered(five_from(octets, octet), 5, bit, width)
 }
 
 // The number of `width` bits at a place.
@@ -79,7 +79,7 @@ pub fn read_there(octets: &[u8], place: BitPlace, width: usize) -> u32
     ensures { result ≡ number_at octets.now place.0 width }
 {
     let gathered = gathered_there::<8>(octets, places::octet_of(place));
-    read_gathered::<8>(gathered, places::bit_in_octet(place), width)
+    read_gathered(gathered, 8, places::bit_in_octet(place), width)
 }
 
 // A number of N whole octets that are there: just those that it touches are gathered.
@@ -87,7 +87,7 @@ pub fn read_whole<const N: usize>(octets: &[u8], place: OctetPlace) -> u32
     requires { (N ≤ 4) × (place.0 + N ≤ length octets.now) }
     ensures { result ≡ number_at octets.now (place.0 * 8) (N * 8) }
 {
-    read_gathered::<N>(gathered_there::<N>(octets, place), 0, N * 8)
+    read_gathered(gathered_there::<N>(octets, place), N, 0, N * 8)
 }
 
 // A place in octets that lie beside it, the width of the numbers from there on, and how many of them are left. It has no
