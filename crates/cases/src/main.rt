@@ -7,6 +7,7 @@ use format::{Lengths, POINT_SIZE, Part, Template, Widths};
 use std::io;
 use std::io::Write;
 
+// The lowest octet. `as` loses nothing, so that the rest is taken off before it.
 fn octet(number: u32) -> u8 {
     (number & 0xff) as u8
 }

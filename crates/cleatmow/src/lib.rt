@@ -1,4 +1,5 @@
 // The C calls: each a few lines over the crates below. include/cleatmow.h declares them, and the crate `cleatmow_c` exports them.
+// C passes a template's numbers one by one, and lends the values that a call leaves: so do these.
 #![tactic(auto)]
 
 ghost use Rattle.std.specs.Prelude.{◌≡◌};
