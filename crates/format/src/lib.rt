@@ -2,8 +2,8 @@
 // and for what document 02 adds.
 #![tactic(auto)]
 
-// "What each number says": a case for each row of the table, and 14 and 15 of document 02. `refusal_number` of specs/Refusals.antt
-// has the numbers.
+// "What each number says": a case for each row of the table, and 14 and 15 of document 02, with its number. `refusal_number` of
+// specs/Refusals.antt has the same. Each type here derives what is asked of it: all are copied, and a refusal is an error besides.
 #[derive(Clone, Copy, Debug, PartialEq, Eq, Hash)]
 pub enum Refusal {
     Splitting = 1,

@@ -115,7 +115,8 @@ fn surveyed_from(
     groups_surveyed(&groups, place)
 }
 
-// "Order for 5.2: 1, 2, 6, 5, 7 for the group fields, 8, 7 for the values".
+// "Order for 5.2: 1, 2, 6, 5, 7 for the group fields, 8, 7 for the values". Template and payload come by themselves: nothing is known
+// of both before this. Once it is, `Groups` holds them.
 pub fn surveyed_complex(
     template: Template,
     payload: &[u8],
@@ -142,7 +143,8 @@ fn descriptors_end(differencing: Differencing) -> usize
     (differencing.order as usize + 1) * differencing.octets as usize
 }
 
-// "For 5.3: 3, 1, 2, 4, 7 for descriptors, then from 6 on as for 5.2".
+// "For 5.3: 3, 1, 2, 4, 7 for descriptors, then from 6 on as for 5.2". Not one function with `located_complex`: each has refusals
+// of its own, in an order of its own.
 pub fn located_spatial(
     template: Template,
     differencing: Differencing,
@@ -175,7 +177,8 @@ pub fn check_count(points: usize, declared: u32) -> Result<(), Refusal>
     Ok(())
 }
 
-// "The last four can be asked for as parts of the caller's payload". One that is refused has none.
+// "The last four can be asked for as parts of the caller's payload". One that is refused has none. `Part` is what the caller asks
+// for, in document 01's words; a closure would choose the same slice.
 fn part_taken(payload: &[u8], located: Result<Located, Refusal>, part: Part) -> &[u8]
     requires { OrderedIn (length payload.now) located }
     ensures { result.now ≡ part_of part payload.now located }

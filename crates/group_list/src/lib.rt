@@ -29,7 +29,8 @@ pub fn group_at(list: &[Group], k: usize) -> Group
     list.get(k).copied().unwrap_or(NO_GROUP)
 }
 
-// As many of the first `count` groups as fit, which is the answer; "places past the answer are unchanged".
+// As many of the first `count` groups as fit, which is the answer; "places past the answer are unchanged". The count is said beside
+// the numbers, as grouping leaves them: behind so many groups the lent numbers are none of a group.
 pub fn fill_list(list: &mut [Group], numbers: &[u32], count: usize) -> usize
     ensures { filling result list.new ≡ filled numbers.now count list.old }
 {

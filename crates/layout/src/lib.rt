@@ -158,13 +158,6 @@ pub fn whole_in<const SIZE: usize>(octets: &[u8], k: usize) -> u32
     stream::read_whole::<SIZE>(octets, OctetPlace(k * SIZE))
 }
 
-pub fn number_in(octets: &[u8], k: usize) -> u32
-    requires { (k + 1) * number_size ≤ length octets.now }
-    ensures { result ≡ number_at octets.now (k * 32) 32 }
-{
-    whole_in::<NUMBER_SIZE>(octets, k)
-}
-
 pub fn group_in(octets: &[u8], k: usize) -> Group
     requires { (k + 1) * group_size ≤ length octets.now }
     ensures { result ≡ group_in octets.now k }
@@ -178,6 +171,7 @@ pub fn group_in(octets: &[u8], k: usize) -> Group
     }
 }
 
+// A function, and no `From`: the type is of the crate `format`, and only that crate could give it one.
 pub fn mark_of(point: DecodedValue) -> u8
     ensures { result ≡ mark_of point }
 {
@@ -207,6 +201,7 @@ pub fn store_signed(octets: &mut [u8], k: usize, number: i64)
     store(octets, at + 1, number.cast_unsigned(), 8);
 }
 
+// That point k is there is asked by each of these: a type of points would ask it of each k all the same.
 pub fn mark_in(octets: &[u8], k: usize) -> u8
     requires { (k + 1) * point_size ≤ length octets.now }
     ensures { result ≡ get_or octets.now (k * point_size) 0 }

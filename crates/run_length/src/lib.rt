@@ -71,7 +71,8 @@ fn repeat(levels: &mut [u8], from: usize, to: usize, level: u16)
 impl LevelCoding {
     // Where reading ends: "fewer than b bits at the end are ignored", and once the declared count is `reached`, padding is not
     // read. Where five octets are there, which reading a code asks for too, neither ends the payload. The octets that a code
-    // reaches into are rounded up by 7 more bits, which cannot overflow here.
+    // reaches into are rounded up by 7 more bits, which cannot overflow here. `reached` is a truth about the count, which the walk
+    // alone has: no step is chosen by it.
     fn ends(self, payload: &[u8], run: Run, reached: bool) -> bool
         requires { (run.octet.0 ≤ length payload.now) × (run.bit ≤ 7) }
         ensures { result ≡ (ltb (length payload.now * 8) (place_of run + self.bits) || (reached && only_padding payload.now (place_of run))) }
@@ -119,6 +120,7 @@ impl LevelCoding {
     {
         let mut run = START;
         let mut points = 0usize;
+        // No count or list says how many turns there are: `ends` does, of the run that each turn leaves.
         loop {
             if self.ends(payload, run, points == declared) {
                 return points;

@@ -112,7 +112,8 @@ fn write_fields(fields: &[u8], kind: Kind, section5: &mut [u8])
     }
 }
 
-// What is left of writing once the head is right: 13, 10, then the octets.
+// What is left of writing once the head is right: 13, 10, then the octets. Fields and their kind stay two: what is asked of both
+// is asked by this function and by the two that it calls, and of no caller.
 fn write_checked(fields: &[u8], kind: Kind, section5: &mut [u8]) -> Result<OctetPlace, Refusal>
     requires { field_count (number kind) ≤ whole_ones number_size fields.now }
     ensures { left result section5.new ≡ written_by (number kind) (numbers_in fields.now) section5.old }

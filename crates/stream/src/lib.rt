@@ -149,7 +149,8 @@ fn fill(octets: &[u8], start: BitPlace, width: usize, numbers: &mut [u32])
     }
 }
 
-// Reads `count` numbers of `width` bits from bit `start` of the octets on.
+// Reads `count` numbers of `width` bits from bit `start` of the octets on. The count is not the length of what is lent: 10 tells
+// them apart.
 #[tactic(auto, using(std::proofs::lemmas::Bool::Decides::nat_tests), unfolding(format::specs::Bits::read_field, format::specs::Refusals::first))]
 pub fn read_field(
     octets: &[u8],
