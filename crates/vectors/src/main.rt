@@ -126,7 +126,7 @@ fn unpacks_as_frozen(row: &[u8; 64]) -> bool {
     number == u32::from(row[15]) && points[..] == row[28..64]
 }
 
-// The kinds are the file's own numbers, and stand nowhere else but here, in `unpacked` and in `next_row`.
+// By the number that a row begins with, which is the frozen file's.
 fn is_as_frozen(row: &[u8; 64]) -> bool {
     match row[0] {
         1 => reads_as_frozen(row),
