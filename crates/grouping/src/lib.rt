@@ -152,7 +152,7 @@ pub struct Rule<'a> {
     pub numbers: &'a Numbers<'a>,
     pub lookahead: usize,
     pub added: u16,
-    ghost limits: { Limits numbers.now lookahead },
+    pub ghost limits: { Limits numbers.now lookahead },
 }
 
 impl<'a> Rule<'a> {

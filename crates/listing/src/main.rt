@@ -29,7 +29,7 @@ fn show_list<W: Write>(out: &mut W, list: &[Group]) -> io::Result<()> {
 // A list with room for three groups, each of its numbers 170 before it is filled from the numbers of so many groups.
 fn show_listed<W: Write>(
     out: &mut W,
-    name: &str,
+    name: &[u8],
     lookahead: u32,
     numbers: &[u8],
 ) -> io::Result<()> {
@@ -53,12 +53,12 @@ fn main(rt: HostRuntime) -> io::Result<()> {
     // "Pack 0 0 0 0 8 8 8, k 2"
     show_listed(
         &mut out,
-        "0 0 0 0 8 8 8, k 2",
+        b"0 0 0 0 8 8 8, k 2",
         2,
         b"\0\0\0\0\0\0\0\0\0\0\0\0\0\0\0\0\0\0\0\x08\0\0\0\x08\0\0\0\x08",
     )?;
     // "Pack 5 6 5 7, k 1", of whose four groups three fit. "The same, k 4"
     let numbers = b"\0\0\0\x05\0\0\0\x06\0\0\0\x05\0\0\0\x07";
-    show_listed(&mut out, "5 6 5 7, k 1", 1, numbers)?;
-    show_listed(&mut out, "5 6 5 7, k 4", 4, numbers)
+    show_listed(&mut out, b"5 6 5 7, k 1", 1, numbers)?;
+    show_listed(&mut out, b"5 6 5 7, k 4", 4, numbers)
 }

@@ -60,8 +60,9 @@ pub fn show_all<W: Write>(out: &mut W, octets: &[u8], size: usize) -> io::Result
     Ok(())
 }
 
-pub fn show_called<W: Write>(out: &mut W, name: &str, number: u32) -> io::Result<()>
+pub fn show_called<W: Write>(out: &mut W, name: &[u8], number: u32) -> io::Result<()>
     ensures { OnOk result (Appends (W.contents out.old) (W.contents out.new) (name.now ++ codes ": " ++ decimal number)) }
 {
-    write!(out, "{name}: {number}")
+    out.write_all(name)?;
+    write!(out, ": {number}")
 }
