@@ -65,6 +65,8 @@ pub fn store_points(groups: &Groups, points: &mut [u8])
     requires { Roomy groups.now.template (codes_in groups.now) (length points.old) }
     ensures { points.new ≡ flat_map point_octets (points_up_to groups.now.template (said_by groups.now.places.references.0 groups.now.template groups.now.payload.now) groups.now.template.groups) over points.old }
 {
+    // A copy of their own: what is stored cannot change it, so the compiler need not read it anew.
+    let groups = *groups;
     let values = places::first_bit(groups.places.values);
     let mut walk = Walk::START;
     for g in 0..groups.template.groups as usize {

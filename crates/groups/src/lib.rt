@@ -145,19 +145,23 @@ fn decoded(template: Template, width: usize, value: u32, number: u32) -> Decoded
     requires { width ≤ 31 }
     ensures { result ≡ decoded template width value number }
 {
-    // Asked first and alone, so that the compiler takes it out of the loop over a group's values.
+    let point = DecodedValue::Normal(i64::from(number));
+    // Asked first and alone, so that the compiler takes it out of the loop over a group's values; so with 2.
     if template.management == 0 {
-        return DecodedValue::Normal(i64::from(number));
+        return point;
     }
     let greatest = places::power(width) - 1;
     let read = value as u64;
     if read == greatest {
         return DecodedValue::Missing1;
     }
-    if template.management == 2 && read + 1 == greatest {
+    if template.management != 2 {
+        return point;
+    }
+    if read + 1 == greatest {
         return DecodedValue::Missing2;
     }
-    DecodedValue::Normal(i64::from(number))
+    point
 }
 
 // A value's point. "In a group of width 0 the same tests apply to the reference at the number width, and the number is the
