@@ -5,6 +5,7 @@ ghost use Rattle.std.specs.Prelude.{◌≡◌, true, cond, ◌+◌, ◌*◌, ◌
 ghost use Rattle.format.specs.Bits.{number_at};
 ghost use Rattle.format.specs.Refusals.{limit};
 ghost use Rattle.format.specs.Unpacking.{reference_of, group_width, group_length, decoded, point_of};
+ghost use Rattle.format.specs.declared.DecodedValue.TheVariants.{Normal};
 ghost use Rattle.laws.specs.Accepting.{Laid};
 ghost use Rattle.groups.specs.Packed.{coded_group, holder_group, Limited, Readable, held_point, all_there};
 ghost use Rattle.groups.specs.Walk.{Further};
@@ -140,15 +141,20 @@ impl<'a> Groups<'a> {
     }
 }
 
+fn normal(number: u32) -> DecodedValue
+    ensures { result ≡ Normal (pos number) }
+{
+    DecodedValue::Normal(i64::from(number))
+}
+
 // "value 2^w − 1 is missing 1 if m > 0; else 2^w − 2 is missing 2 if m = 2; else the number"
 fn decoded(template: Template, width: usize, value: u32, number: u32) -> DecodedValue
     requires { width ≤ 31 }
     ensures { result ≡ decoded template width value number }
 {
-    let point = DecodedValue::Normal(i64::from(number));
     // Asked first and alone, so that the compiler takes it out of the loop over a group's values; so with 2.
     if template.management == 0 {
-        return point;
+        return normal(number);
     }
     let greatest = places::power(width) - 1;
     let read = value as u64;
@@ -156,12 +162,12 @@ fn decoded(template: Template, width: usize, value: u32, number: u32) -> Decoded
         return DecodedValue::Missing1;
     }
     if template.management != 2 {
-        return point;
+        return normal(number);
     }
     if read + 1 == greatest {
         return DecodedValue::Missing2;
     }
-    point
+    normal(number)
 }
 
 // A value's point. "In a group of width 0 the same tests apply to the reference at the number width, and the number is the
