@@ -23,7 +23,8 @@ fn show_answer<W: Write>(out: &mut W, number: u32) -> io::Result<()> {
     write!(out, " -> {number}")
 }
 
-// A row: the first letter of its word, its numbers from place 1 on, and the octets behind its bar.
+// A row: the first letter of its word, its numbers from place 1 on, and the octets behind its bar. The letter is the row's own, and
+// is matched where it is asked for.
 #[derive(Clone, Copy)]
 struct Row<'a> {
     word: u8,
@@ -64,6 +65,7 @@ impl Row<'_> {
         )
     }
 
+    // Two calls of C, with eleven and with thirteen numbers: one method each.
     fn unpack_complex(&self, points: &mut [u8]) -> u32 {
         let template = self.template();
         cleatmow::cleatmow_unpack_complex(

@@ -17,7 +17,7 @@ use numbers::Window;
 use std::marker::Model;
 
 // The records of groups, as they lie in lent octets. Who goes through them counts to `len`: an iterator would repeat that count
-// in its `next`, with a contract of its own, and each loop would be as long. They may be none, as `but_last` of one is, so that the
+// in its `next`, with a contract of its own, for five loops of a line or two. They may be none, as `but_last` of one is, so that the
 // type does not hold `Codable`.
 #[derive(Drop)]
 pub struct Records<'a> {

@@ -67,8 +67,8 @@ fn unpack_differences(
     }
 }
 
-// Template 5.3: the points of a payload, nine octets each. 5.2 and 5.3 stay two functions: each has refusals of its own, and what
-// both do stands in `check_points` and in `Groups`.
+// Template 5.3: the points of a payload, nine octets each. 5.2 and 5.3 stay two functions: each has refusals of its own before
+// `check_points`, and 5.3 a step more behind `store_points`.
 pub fn unpack_spatial(
     template: Template,
     differencing: Differencing,

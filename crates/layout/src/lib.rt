@@ -171,7 +171,7 @@ pub fn group_in(octets: &[u8], k: usize) -> Group
     }
 }
 
-// A function, and no `From`: the type is of the crate `format`, and only that crate could give it one.
+// A function, and no `From`, here and below: the type is of the crate `format`, which has no function but derived ones.
 pub fn mark_of(point: DecodedValue) -> u8
     ensures { result ≡ mark_of point }
 {

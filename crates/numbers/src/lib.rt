@@ -26,7 +26,7 @@ impl<'a> Model for Numbers<'a> {
     ghost invariant = { λ n. n.top ≡ greatest (numbers_in n.octets.now) };
 }
 
-// The greatest number of a list; 0 of none. By place: to a proof a chunk of four octets is no number of the list.
+// The greatest number of a list; 0 of none.
 fn greatest_of(octets: &[u8]) -> u32
     ensures { result ≡ greatest (numbers_in octets.now) }
 {

@@ -27,7 +27,7 @@ fn longer(number: u32, character: u8) -> u32 {
 }
 
 // The numbers of a row, the first of them at place 1; at 0, where the word stands, is 0. A space begins the next of the
-// sixteen places.
+// sixteen places, and stays at the last: a split of the row would not.
 pub fn numbers_in(row: &[u8]) -> [u32; 16] {
     let mut numbers = [0u32; 16];
     let mut k = 0usize;
@@ -102,7 +102,7 @@ impl Reading<'_> {
         }
     }
 
-    // Reads one character more. As half an octet, what is no digit stands for 16.
+    // Reads one character more. As half an octet, what is no digit stands for 16: each row has octets, whatever is written there.
     fn read(&mut self, character: u8)
         ensures { self.new.octets.ghost_name ≡ self.old.octets.ghost_name }
     {

@@ -47,8 +47,8 @@ fn four_stand(levels: &[u8], place: usize, level: usize) -> bool
     octets == (level as u64) * FOUR_TIMES
 }
 
-// A place up to which a level stands, found by four places at a time: not always its last. A `for` by steps of four would name an
-// end, and answer it once more behind the loop.
+// A place up to which a level stands, found by four places at a time: not always its last. A `for` over fours would reckon each
+// place from how many fours were passed, and once more behind the loop.
 fn fours_from(levels: &[u8], place: usize, level: usize) -> usize
     requires { (place ≤ length (levels_in levels.now)) × (level < 2 ^ 16) }
     ensures { Stands (levels_in levels.now) place level result }
@@ -181,7 +181,8 @@ fn octets_of(coding: LevelCoding, levels: &[u8]) -> Result<OctetPlace, Refusal>
     Ok(places::span(BitPlace(0), coding.bits, codes))
 }
 
-// Digit d is code M + 1 + d.
+// Digit d is code M + 1 + d. Coding, pen and payload stay three, here and below: a value that held them would be made for one
+// list of levels and taken apart behind it.
 fn put_digit(coding: LevelCoding, digit: usize, pen: Pen, payload: &mut [u8]) -> Pen
     requires { (digit < coding.base) × Ready pen coding.bits payload.old }
     ensures { Moved pen (string_of coding.bits ((coding.greatest + 1 + digit) ∷ [])) payload.old payload.new result }

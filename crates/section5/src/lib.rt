@@ -42,7 +42,8 @@ const ROWS: [Row; 22] = [
     Row { first: 49, size: 1 }, // 21: descriptor octets, in 5.3 alone
 ];
 
-// The row of field k. The promise says that the table is the definition's.
+// The row of field k. The promise says that the table is the definition's, so fields are gone through by k, and no slice of rows is
+// handed on.
 fn row_at(k: usize) -> Row
     requires { k < 22 }
     ensures { InTable k result }

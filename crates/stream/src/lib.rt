@@ -51,7 +51,8 @@ pub fn five_from(octets: &[u8], place: OctetPlace) -> u64
     gathered_there::<5>(&five, OctetPlace(0))
 }
 
-// The number of `width` bits from a bit of an octet on. Bits past the end are 0.
+// The number of `width` bits from a bit of an octet on. Bits past the end are 0. That a width is 32 at most is asked here and below: a
+// type of widths would be made at each call.
 pub fn read_in_octet(octets: &[u8], octet: OctetPlace, bit: usize, width: usize) -> u32
     requires { (octet.0 < 2 ^ 63) × (bit ≤ 7) × (width ≤ 32) }
     ensures { result ≡ number_at octets.now (octet.0 * 8 + bit) width }

@@ -10,7 +10,8 @@ ghost use Rattle.writer.specs.Job.{Job};
 use format::{BitPlace, OctetPlace, Refusal};
 
 // Octets that are being written: those before `place` are out, and the `pending` bits after them make `number`. The octets lie
-// beside it, as they do beside the cursor: room is a fact of both and of what is still to come, so no pen holds it.
+// beside it, as they do beside the cursor: a pen that held them would be lent itself by whatever writes, and each promise would
+// speak through two references.
 #[derive(Clone, Copy)]
 pub struct Pen {
     pub place: OctetPlace,
