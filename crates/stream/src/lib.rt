@@ -36,9 +36,21 @@ pub fn gathered_there<const N: usize>(octets: &[u8], place: OctetPlace) -> u64
     number
 }
 
+// Five octets from a place on, those past the end as 0. Apart, so that the compiler keeps it out of loops that read.
+#[cold]
+#[inline(never)]
+#[tactic(auto, unfolding(laws::specs::Bits::gathered))]
+fn five_at_end(octets: &[u8], place: OctetPlace) -> u64
+    requires { place.0 < 2 ^ 63 }
+    ensures { result ≡ gathered octets.now place.0 5 }
+{
+    let at = place.0;
+    let five: [u8; 5] = array::from_fn(|k| octets.get(at + k).copied().unwrap_or(0));
+    gathered_there::<5>(&five, OctetPlace(0))
+}
+
 // "the octets that a number touches, at most five": five from the first of them on, those past the end as 0. Where all are there
 // none is tested by itself.
-#[tactic(auto, unfolding(laws::specs::Bits::gathered))]
 pub fn five_from(octets: &[u8], place: OctetPlace) -> u64
     requires { place.0 < 2 ^ 63 }
     ensures { result ≡ gathered octets.now place.0 5 }
@@ -47,8 +59,7 @@ pub fn five_from(octets: &[u8], place: OctetPlace) -> u64
     if at + 5 <= octets.len() {
         return gathered_there::<5>(octets, place);
     }
-    let five: [u8; 5] = array::from_fn(|k| octets.get(at + k).copied().unwrap_or(0));
-    gathered_there::<5>(&five, OctetPlace(0))
+    five_at_end(octets, place)
 }
 
 // The number of `width` bits from a bit of an octet on. Bits past the end are 0. That a width is 32 at most is asked here and below: a
