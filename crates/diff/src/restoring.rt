@@ -61,7 +61,7 @@ impl Restoring {
     }
 }
 
-// A first value, "unsigned".
+// A first value, "unsigned". That a descriptor has four octets at most is asked here and by the two below, which it is read for.
 fn first_value(octets: usize, payload: &[u8], k: usize) -> u64
     requires { (octets ≤ 4) × (k ≤ 1) }
     ensures { result ≡ bias + number_at payload.now (k * (octets * 8)) (octets * 8) }

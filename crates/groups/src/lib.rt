@@ -74,6 +74,7 @@ impl Walk {
     }
 }
 
+// That a group is one of the template's is asked by each: a type of its number would be made at each turn of a walk.
 impl<'a> Groups<'a> {
     ghost use Rattle.groups.specs.Groups.{codes_in};
 
@@ -146,6 +147,8 @@ fn normal(number: u32) -> DecodedValue
 {
     DecodedValue::Normal(i64::from(number))
 }
+
+// That widths are 31 at most is asked from here on: 8 has refused others, and a type of them would be made at each value.
 
 // "value 2^w − 1 is missing 1 if m > 0; else 2^w − 2 is missing 2 if m = 2; else the number"
 fn decoded(template: Template, width: usize, value: u32, number: u32) -> DecodedValue

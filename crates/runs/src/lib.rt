@@ -35,7 +35,8 @@ fn level_at(levels: &[u8], k: usize) -> usize
 }
 
 // Whether the eight octets from a place on are those of a level four times. Then it stands at the next four places; where they
-// are not, or are not there, nothing is said, since `end_from` goes on by single places.
+// are not, or are not there, nothing is said, since `end_from` goes on by single places. That a place is in the list is asked of
+// each: a type of places would be made at each.
 fn four_stand(levels: &[u8], place: usize, level: usize) -> bool
     requires { (place ≤ length (levels_in levels.now)) × (level < 2 ^ 16) }
     ensures { result ≡ true → Stands (levels_in levels.now) place level (place + 4) }

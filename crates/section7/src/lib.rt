@@ -58,7 +58,7 @@ impl Coding {
     }
 }
 
-// A code of each group.
+// A code of each group. Records are read and the payload is written, here and below: they come together in these functions alone.
 fn put_codes(coding: Coding, records: &Records, pen: Pen, payload: &mut [u8]) -> Pen
     requires codes { Codable coding records.now }
     requires ready { Ready pen (length records.now * bits_of coding) payload.old }

@@ -36,7 +36,8 @@ impl Pen {
     }
 
     // Writes a number of `width` bits behind those that the pen has written. Octets go out while there are eight bits: with a `for`
-    // over their count, `bits / 8`, packing takes 2 to 18 in a hundred more instructions.
+    // over their count, `bits / 8`, packing takes 2 to 18 in a hundred more instructions. That a width is 32 at most is asked here and
+    // below: a type of widths would be made at each call.
     pub fn put(self, x: u64, width: usize, octets: &mut [u8]) -> Pen
         requires ready { Ready self width octets.old }
         requires width_bound { (width ≤ 32) × (x < 2 ^ width) }
