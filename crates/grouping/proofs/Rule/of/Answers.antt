@@ -16,5 +16,9 @@ pub returns-then-lookahead-eq0 : goal.returns-then-lookahead-eq0
 returns-then-lookahead-eq0 c =
     refuses _ _ (λ some few small ahead near. elim c.then-lookahead-eq0.branch [ then-lookahead-eq0-via-then-lookahead-eq0 w ↦ omega arith | then-lookahead-eq0-via-else-lookahead-eq0+then-lookahead-gt65535 w ↦ omega arith ])
 
+-- the check finds this; it stands here so that a failure names the bound
+pub invariant_of-result : goal.invariant_of-result
+invariant_of-result c = record { limits = record { few = omega arith; ahead = omega arith; near = omega arith } }
+
 pub returns : goal.returns
 returns c = (passes _ _ (omega arith) (record { few = omega arith; ahead = omega arith; near = omega arith }) (omega arith), refl, refl, refl)
