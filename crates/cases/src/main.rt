@@ -107,13 +107,23 @@ impl Row<'_> {
     }
 }
 
+// Whether a point has mark 0 and number 0. Its number is taken whole: octet by octet it takes longer.
+fn is_zero(point: &[u8]) -> bool {
+    match *point {
+        [mark, a, b, c, d, e, f, g, h] => {
+            mark == 0 && i64::from_be_bytes([a, b, c, d, e, f, g, h]) == 0
+        }
+        _ => false,
+    }
+}
+
 // Of many points: the last one, spare octets, and how many have mark 0 and number 0.
 fn show_many<W: Write>(out: &mut W, points: &[u8]) -> io::Result<()> {
     let whole = points.chunks_exact(POINT_SIZE);
     if let Some(last) = whole.len().checked_sub(1) {
         showing::show_all(out, &points[last * POINT_SIZE..], POINT_SIZE)?;
     }
-    let zeros = whole.filter(|point| point.iter().all(|octet| *octet == 0));
+    let zeros = whole.filter(|point| is_zero(point));
     write!(out, "; zeros")?;
     showing::show(out, zeros.count())
 }
@@ -193,24 +203,30 @@ fn answer<W: Write>(out: &mut W, row: &Row) -> io::Result<()> {
     }
 }
 
-// A row's word is told by its first letter. A line that begins with # says something about the rows below it.
+// A row's word is told by its first letter. Apart, so that a line which is no row lends no octets.
+#[inline(never)]
+fn answer_row<W: Write>(out: &mut W, word: u8, line: &[u8]) -> io::Result<()> {
+    let mut octets = [0u8; 1300];
+    let count = rows::octets_in(line, &mut octets);
+    let numbers = rows::numbers_in(line);
+    let octets = &octets[..count];
+    answer(
+        out,
+        &Row {
+            word,
+            numbers,
+            octets,
+        },
+    )
+}
+
+// A line that begins with # says something about the rows below it.
 fn answer_line<W: Write>(out: &mut W, line: &[u8]) -> io::Result<()> {
     out.write_all(line)?;
     if let [word, ..] = *line
         && word != b'#'
     {
-        let mut octets = [0u8; 1300];
-        let count = rows::octets_in(line, &mut octets);
-        let numbers = rows::numbers_in(line);
-        let octets = &octets[..count];
-        answer(
-            out,
-            &Row {
-                word,
-                numbers,
-                octets,
-            },
-        )?;
+        answer_row(out, word, line)?;
     }
     writeln!(out)
 }

@@ -2,20 +2,21 @@
 use Rattle.std.proofs.Common.{◌≡◌, ℕ, ◌+◌, ◌-◌, ◌/◌, ◌<◌, ◌≤◌, List, [], ◌∷◌, ◌++◌, map, length, take, sym, ◌∙◌, ap, arith}
 use mathlib.Core.List.{map-append}
 use Rattle.std.proofs.lemmas.List.{length-map}
-use Rattle.format.specs.Lists.{listed, greatest, least}
+use Rattle.format.specs.Lists.{greatest, least}
 use Rattle.format.specs.Grouping.{bits, digits_in, width_of}
 use Rattle.format.specs.Packing.{gcd, gcd_from, increment_of, width_coding, length_coding, template_of}
 use Rattle.format.specs.declared.Group.{Group}
 use Rattle.format.specs.declared.Lengths.{Lengths}
 use Rattle.format.specs.declared.Widths.{Widths}
 use Rattle.laws.specs.Codes.{but-last-snoc, last_snoc}
-use Rattle.laws.specs.Groups.{own_numbers, own_groups, length-own}
+use Rattle.laws.specs.Groups.{own_numbers, own_groups, length-own, width-upto}
 use Rattle.numbers.specs.declared.Window.{Window}
 use Rattle.numbers.specs.Windows.{window_of}
-use Rattle.coding.specs.Codes.{IsAt, widths_in, lengths_in, Recorded}
+use Rattle.numbers.specs.Records.{IsAt, Recorded}
+use Rattle.numbers.proofs.Recordings.{own-numbers}
+use Rattle.coding.specs.Codes.{widths_in, lengths_in, Codable}
 use Rattle.coding.proofs.Divisors.{gcd-snoc}
 use Rattle.coding.proofs.Firsts.{firsts-next, firsts-all, firsts-last, least-below, greatest-less}
-use Rattle.coding.proofs.Recordings.{own-numbers}
 
 -- the differences of some lengths from one that is no greater
 abbrev pub differences : ℕ → List ℕ → List ℕ
@@ -65,6 +66,10 @@ module _ (groups : List Group) (some : 0 < length groups) {n : ℕ} (en : n ≡ 
       rw (eb.0, ei.0, es, ew, em, lengths-last) (sym (lengths-snoc (lengths_in (take (length groups - 1) groups)) g.length))
 
 -- ---- the template
+
+-- the records of groups of numbers that packing takes can be coded
+pub codable : {numbers : List ℕ} {groups : List Group} → Recorded numbers groups → Codable groups
+codable h = record { some = h.some; few = h.few; narrow = λ d k l. width-upto (h.each d k l) 32 (omega (arith, h.small)) }
 
 -- the numbers of the records are those of the groups
 pub template-is : (groups : List Group) {n top b : ℕ} → n ≡ length groups → (b ≡ bits top) × (b ≤ 32) → {w : Widths} → w ≡ width_coding (widths_in groups) → {l : Lengths} → l ≡ length_coding (lengths_in groups)

@@ -10,7 +10,8 @@ use Rattle.laws.specs.Groups.{group_in}
 use Rattle.numbers.specs.declared.Window.{Window}
 use Rattle.numbers.specs.Windows.{window_of, widened_by}
 use Rattle.numbers.proofs.Windows.{window_more}
-use Rattle.coding.specs.Codes.{IsAt, widths_in, Codable}
+use Rattle.numbers.specs.Records.{IsAt}
+use Rattle.coding.specs.Codes.{widths_in, Codable}
 
 -- ---- any numbers
 

@@ -2,71 +2,18 @@
 // groups in a lent list are coded.
 #![tactic(auto)]
 
-ghost use Rattle.std.specs.Prelude.{◌≡◌, List, map, ℕ, ◌*◌, ◌-◌, ◌/◌, ◌<◌, ◌≤◌, length, take};
+ghost use Rattle.std.specs.Prelude.{◌≡◌, List, map, ℕ, ◌-◌, ◌/◌, ◌<◌, ◌≤◌, length};
 ghost use Rattle.format.specs.Lists.{greatest, least};
-ghost use Rattle.format.specs.Layout.{group_size};
 ghost use Rattle.format.specs.Grouping.{bits};
 ghost use Rattle.format.specs.Packing.{gcd, gcd_from, divisor_up_to, increment_of, width_coding, length_coding, template_of};
 ghost use Rattle.format.specs.declared.Group.{Group};
-ghost use Rattle.laws.specs.Groups.{groups_in, own_groups};
+ghost use Rattle.laws.specs.Groups.{own_groups};
 ghost use Rattle.numbers.specs.Windows.{window_of};
-ghost use Rattle.coding.specs.Codes.{IsAt, widths_in, lengths_in, Codable, Recorded};
+ghost use Rattle.numbers.specs.Records.{Recorded};
+ghost use Rattle.coding.specs.Codes.{widths_in, lengths_in, Codable};
 
 use format::{Group, Lengths, Template, Widths};
-use numbers::Window;
-use std::marker::Model;
-
-// The records of groups, as they lie in lent octets. Who goes through them counts to `len`: an iterator would repeat that count
-// in its `next`, with a contract of its own, for five loops of a line or two. They may be none, as `but_last` of one is, so that the
-// type does not hold `Codable`.
-#[derive(Drop)]
-pub struct Records<'a> {
-    octets: &'a [u8],
-    count: usize,
-}
-
-// Contracts see the list of the groups.
-impl<'a> Model for Records<'a> {
-    ghost Value = { List Group };
-
-    ghost view = { λ r. groups_in r.octets.now r.count };
-
-    ghost invariant = { λ r. r.count * group_size ≤ length r.octets.now };
-}
-
-impl<'a> Records<'a> {
-    // The first `count` of those in the octets.
-    pub fn of(octets: &'a [u8], count: usize) -> Records<'a>
-        requires { count * group_size ≤ length octets.now }
-        ensures { result ≡ groups_in octets.now count }
-    {
-        Records { octets, count }
-    }
-
-    pub fn len(&self) -> usize
-        ensures { result ≡ length self.now }
-    {
-        self.count
-    }
-
-    pub fn at(&self, k: usize) -> Group
-        requires { k < length self.now }
-        ensures { IsAt self.now k result }
-    {
-        layout::group_in(self.octets, k)
-    }
-
-    // "all lengths but the last" are those of these.
-    pub fn but_last(&self) -> Records<'a>
-        requires { 0 < length self.now }
-        ensures { result ≡ take (length self.now - 1) self.now }
-    {
-        Records {
-            octets: self.octets,
-            count: self.count - 1,
-        }
-    }
-}
+use numbers::{Records, Window};
 
 // The least and the greatest of one number of each group: of its width, or of its length. `coded` is what the closure gives.
 fn window_over<F: Fn(Group) -> u32>(records: &Records, number: F) -> Window

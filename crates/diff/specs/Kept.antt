@@ -1,6 +1,6 @@
 -- Numbers that are kept with the bias added to them, so that none is below zero. Assumes nothing.
-use Rattle.std.specs.Prelude.{◌≡◌, ℕ, suc, ◌+◌, ◌-◌, ◌*◌, ◌^◌, ◌≤◌, cond, ℤ, pos, nat_abs, ◌+ℤ◌, List, Option, Some, None}
-use Rattle.std.proofs.Common.{ap, ◌∙◌, arith}
+use Rattle.std.specs.Prelude.{◌≡◌, ℕ, suc, ◌+◌, ◌-◌, ◌*◌, ◌^◌, ◌≤◌, cond, ℤ, pos, nat_abs, ◌+ℤ◌, List, [], ◌∷◌, map, Option, Some, None}
+use Rattle.std.proofs.Common.{refl, ap, ap₂, ◌∙◌, arith}
 use Rattle.std.proofs.Math.IntN.{sub_ℕ}
 use Rattle.format.specs.Bits.{bit_at, number_at}
 use Rattle.format.specs.Differences.{signed, beyond}
@@ -25,6 +25,10 @@ unkept-kept n =
     ∙ ap nat_abs (difference-add n bias bias 0)
     ∙ difference-size (n + bias) (bias + 0)
     ∙ omega arith
+
+pub all-unkept : (ns : List ℕ) → map unkept (map kept ns) ≡ ns
+all-unkept [] = refl
+all-unkept (n ∷ ns) = ap₂ (λ (m : ℕ) (ms : List ℕ). m ∷ ms) (unkept-kept n) (all-unkept ns)
 
 -- those that are within 2^60 either way
 pub record Near (n : ℕ) : Type 0 where

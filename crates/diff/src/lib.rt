@@ -10,7 +10,7 @@ mod kept;
 mod restoring;
 
 use format::{Differencing, Refusal};
-use restoring::Descriptors;
+pub use restoring::{Descriptors, Restoring};
 
 // Restores the packed points, which take all of the lent octets, as far as none is beyond 2^60 either way. It stays a function
 // of its own: within unpacking the compiler makes a constant of the loop anew at each point.

@@ -11,27 +11,32 @@ use format::{BitPlace, POINT_SIZE, Refusal};
 use std::marker::Model;
 
 // As many first values as the order says, and the minimum, each with the bias added to it.
-#[derive(Drop)]
-pub(crate) struct Descriptors<const ORDER: usize> {
+#[derive(Clone, Copy)]
+pub struct Descriptors<const ORDER: usize> {
     firsts: [u64; ORDER],
     minimum: u64,
 }
 
 impl<const ORDER: usize> Model for Descriptors<ORDER> {
-    ghost use Rattle.std.specs.Prelude.{map};
+    ghost use Rattle.std.specs.Prelude.{ℕ, List, map};
+    ghost use Rattle.std.proofs.Common.{ap₂};
     ghost use Rattle.format.specs.Differences.{Descriptors};
-    ghost use Rattle.diff.specs.Kept.{kept, Slight};
+    ghost use Rattle.diff.specs.Kept.{kept, unkept, unkept-kept, all-unkept, Slight};
 
     ghost Value = { Descriptors };
 
     ghost view = { λ d. record { firsts = map kept d.firsts; minimum = kept d.minimum } };
 
     ghost invariant = { λ d. Slight d.minimum };
+
+    ghost inverse = { λ d. record { firsts = map unkept d.firsts; minimum = unkept d.minimum } };
+
+    ghost inverse_ok = { λ d h. ap₂ (λ (ns : List ℕ) (n : ℕ). record { firsts = ns; minimum = n }) (all-unkept d.firsts) (unkept-kept d.minimum) };
 }
 
 // How many first values are still to come; the previous number, and the one before.
 #[derive(Clone, Copy)]
-pub(crate) struct Restoring {
+pub struct Restoring {
     left: usize,
     previous: Kept,
     before: Kept,

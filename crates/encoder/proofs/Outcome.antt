@@ -22,8 +22,8 @@ use Rattle.format.specs.declared.Template.{Template}
 use Rattle.laws.specs.First.{Gives, Clear, clear-join, decides, clears, passed, first-joined, first-through, tests}
 use Rattle.laws.specs.Groups.{all_of, NoneEmpty, Sound, groups_in, own_groups, groups-all, groups-none-empty, groups-some, length-records, groups-back, list-sound}
 use Rattle.laws.specs.Codings.{payload-short}
-use Rattle.coding.specs.Codes.{Recorded}
-use Rattle.coding.proofs.Recordings.{recorded}
+use Rattle.numbers.specs.Records.{Recorded}
+use Rattle.numbers.proofs.Recordings.{recorded}
 use Rattle.section7.specs.Parts.{payload_lent}
 use Rattle.grouping.proofs.Refusing.{greatest-small}
 use Rattle.encoder.proofs.Resting.{Rest, rest, rest-refused, rest-packed, rest-short}

@@ -6,10 +6,9 @@ ghost use Rattle.format.specs.Lists.{◌over◌};
 ghost use Rattle.format.specs.Layout.{numbers_in, in_fours};
 ghost use Rattle.format.specs.Packing.{summary_numbers, summary_size, pack_by, pack};
 
-use coding::Records;
 use format::{OctetPlace, Packed, Refusal, Template};
 use grouping::Rule;
-use numbers::Numbers;
+use numbers::{Numbers, Records};
 
 // "Packing's eight template numbers, in the order of the cases, the group count and the payload length go to a lent 40 octets"
 fn store_summary(template: Template, octets: OctetPlace, summary: &mut [u8])

@@ -3,7 +3,7 @@
 #![tactic(auto)]
 
 ghost use Rattle.std.specs.Prelude.{◌≡◌, length, get_or};
-ghost use Rattle.group_list.specs.Listing.{no_group, filling, filled};
+ghost use Rattle.group_list.specs.Listing.{no_group, fitting_of, filling, filled};
 
 use format::Group;
 
@@ -29,13 +29,20 @@ pub fn group_at(list: &[Group], k: usize) -> Group
     list.get(k).copied().unwrap_or(NO_GROUP)
 }
 
+// How many of `count` groups go into a list with room for so many, out of so many numbers: filling has no test for it.
+fn fitting(count: usize, room: usize, have: usize) -> usize
+    ensures { result ≡ fitting_of count room have }
+{
+    count.min(room).min(have / format::NUMBERS_PER_GROUP)
+}
+
 // As many of the first `count` groups as fit, which is the answer; "places past the answer are unchanged". The count is said beside
 // the numbers, as grouping leaves them: behind so many groups the lent numbers are none of a group.
 pub fn fill_list(list: &mut [Group], numbers: &[u32], count: usize) -> usize
     ensures { filling result list.new ≡ filled numbers.now count list.old }
 {
     let (fours, _) = numbers.as_chunks::<{ format::NUMBERS_PER_GROUP }>();
-    let fits = count.min(list.len()).min(fours.len());
+    let fits = fitting(count, list.len(), numbers.len());
     for (k, place) in list[..fits].iter_mut().enumerate() {
         let [start, length, least, width] = fours[k];
         *place = Group {

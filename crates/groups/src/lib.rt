@@ -85,7 +85,7 @@ impl<'a> Groups<'a> {
     {
         let bits = width as usize;
         let place = BitPlace(places::first_bit(field).0 + g * bits);
-        stream::read_number(self.payload, place, bits)
+        stream::read_code(self.payload, place, bits)
     }
 
     fn reference_of(&self, g: usize) -> u32

@@ -1,1 +1,3 @@
 pub mod Windows
+pub mod Lists
+pub mod Recordings

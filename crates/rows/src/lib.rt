@@ -20,10 +20,10 @@ fn digit(character: u8) -> Option<u8> {
 
 // A number with one more decimal digit behind it. What is no such digit changes nothing.
 fn longer(number: u32, character: u8) -> u32 {
-    match char::from(character).to_digit(10) {
-        Some(digit) => number.wrapping_mul(10).wrapping_add(digit),
-        None => number,
+    if !character.is_ascii_digit() {
+        return number;
     }
+    ((u64::from(number) * 10 + u64::from(character - b'0')) % (1 << 32)) as u32
 }
 
 // The numbers of a row, the first of them at place 1; at 0, where the word stands, is 0. A space begins the next of the
@@ -49,87 +49,96 @@ enum Part {
     Count(u32),
 }
 
-// The lent octets as a row fills them, the one that the word began with, and the one that is next. By `ghost_name` each function
-// says that the octets are still the lent ones.
-#[derive(Drop)]
-struct Reading<'a> {
-    octets: &'a mut [u8],
+// An octet from its two halves.
+fn joined(high: u8, low: u8) -> u8 {
+    ((u32::from(high) * 16 + u32::from(low)) % 256) as u8
+}
+
+// The octet that a row's word began with, and the one that is next.
+#[derive(Clone, Copy)]
+pub struct Reading {
     part: Part,
     word: usize,
     at: usize,
-    ghost word_before: { word ≤ at },
-    ghost in_octets: { at ≤ length octets.now },
 }
 
-impl Reading<'_> {
+impl Reading {
+    // Before a row: no word has begun.
+    const START: Reading = Reading {
+        part: Part::Nothing,
+        word: 0,
+        at: 0,
+    };
+
     // A word that begins at an octet.
-    fn begin_word(&mut self, at: usize)
-        requires { at ≤ length self.old.octets.now }
-        ensures { self.new.octets.ghost_name ≡ self.old.octets.ghost_name }
+    fn of_word(at: usize) -> Reading
+        ensures { (result.word ≡ at) × (result.at ≡ at) }
     {
-        self.part = Part::FirstHalf;
-        self.word = at;
-        self.at = at;
+        Reading {
+            part: Part::FirstHalf,
+            word: at,
+            at,
+        }
     }
 
-    // The word, again and again as far as an end.
-    fn repeat_word(&mut self, end: usize)
-        ensures { self.new.octets.ghost_name ≡ self.old.octets.ghost_name }
+    // The word, again and again as far as an end. Answers where it ends then.
+    fn repeat_word(self, octets: &mut [u8], end: usize) -> usize
+        requires { (self.word ≤ self.at) × (self.at ≤ length octets.old) }
+        ensures { result ≤ length octets.new }
     {
         let width = self.at - self.word;
-        let octets = &mut *self.octets;
         let stop = end.min(octets.len()).max(self.at);
         for at in self.at..stop {
             octets[at] = octets[at - width];
         }
-        self.at = stop;
+        stop
     }
 
     // Half an octet more; where there is no room, nothing.
-    fn put_half(&mut self, digit: u8)
-        ensures { self.new.octets.ghost_name ≡ self.old.octets.ghost_name }
+    fn put_half(self, octets: &mut [u8], digit: u8) -> Reading
+        requires { (self.word ≤ self.at) × (self.at ≤ length octets.old) }
+        ensures { (result.word ≤ result.at) × (result.at ≤ length octets.new) }
     {
-        let Some(octet) = self.octets.get_mut(self.at) else {
-            return;
+        let Some(octet) = octets.get_mut(self.at) else {
+            return self;
         };
         if let Part::FirstHalf = self.part {
             *octet = digit;
-            self.part = Part::SecondHalf;
-        } else {
-            *octet = octet.wrapping_mul(16).wrapping_add(digit);
-            self.part = Part::FirstHalf;
-            self.at += 1;
+            return Reading {
+                part: Part::SecondHalf,
+                ..self
+            };
+        }
+        *octet = joined(*octet, digit);
+        Reading {
+            part: Part::FirstHalf,
+            word: self.word,
+            at: self.at + 1,
         }
     }
 
     // Reads one character more. As half an octet, what is no digit stands for 16: each row has octets, whatever is written there.
-    fn read(&mut self, character: u8)
-        ensures { self.new.octets.ghost_name ≡ self.old.octets.ghost_name }
+    fn read(self, octets: &mut [u8], character: u8) -> Reading
+        requires { (self.word ≤ self.at) × (self.at ≤ length octets.old) }
+        ensures { (result.word ≤ result.at) × (result.at ≤ length octets.new) }
     {
         match (character, self.part) {
-            (b'|', _) => self.begin_word(0),
-            (_, Part::Nothing) => {}
-            (b' ', Part::Count(end)) => {
-                self.repeat_word(end as usize);
-                self.begin_word(self.at);
-            }
-            (b' ', _) => self.begin_word(self.at),
-            (b'*', _) => self.part = Part::Count(0),
-            (_, Part::Count(end)) => self.part = Part::Count(longer(end, character)),
+            (b'|', _) => Reading::of_word(0),
+            (_, Part::Nothing) => self,
+            (b' ', Part::Count(end)) => Reading::of_word(self.repeat_word(octets, end as usize)),
+            (b' ', _) => Reading::of_word(self.at),
+            (b'*', _) => Reading {
+                part: Part::Count(0),
+                ..self
+            },
+            (_, Part::Count(end)) => Reading {
+                part: Part::Count(longer(end, character)),
+                ..self
+            },
             (_, Part::FirstHalf | Part::SecondHalf) => {
-                self.put_half(digit(character).unwrap_or(16))
+                self.put_half(octets, digit(character).unwrap_or(16))
             }
         }
-    }
-
-    // Reads a row, and a space that ends it.
-    fn read_row(&mut self, row: &[u8])
-        ensures { self.new.octets.ghost_name ≡ self.old.octets.ghost_name }
-    {
-        for character in row {
-            self.read(*character);
-        }
-        self.read(b' ');
     }
 }
 
@@ -137,14 +146,11 @@ impl Reading<'_> {
 pub fn octets_in(row: &[u8], octets: &mut [u8]) -> usize
     ensures { result ≤ length octets.new }
 {
-    let mut reading = Reading {
-        octets,
-        part: Part::Nothing,
-        word: 0,
-        at: 0,
-    };
-    reading.read_row(row);
-    reading.at
+    let mut reading = Reading::START;
+    for character in row {
+        reading = reading.read(octets, *character);
+    }
+    reading.read(octets, b' ').at
 }
 
 // Fills lent octets from the input, as far as it goes. Answers how many it gave; where fewer than there is room for, it is at its

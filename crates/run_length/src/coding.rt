@@ -8,6 +8,14 @@ ghost use Rattle.run_length.specs.Runs.{Coding};
 
 use format::Refusal;
 
+// The greatest code of b bits, 2^b − 1.
+pub fn greatest_code(bits: usize) -> usize
+    requires { bits ≤ 15 }
+    ensures { (result ≡ 2 ^ bits - 1) × (result < 2 ^ 15) }
+{
+    (places::power(bits) - 1) as usize
+}
+
 // In so many bits, up to a greatest level, and with repeat codes for the digits of a base.
 #[derive(Clone, Copy)]
 pub struct LevelCoding {
@@ -28,7 +36,7 @@ impl LevelCoding {
         }
         let bits = bits as usize;
         let greatest = greatest as usize;
-        let top = (1usize << bits) - 1;
+        let top = greatest_code(bits);
         if top < greatest {
             return Err(Refusal::Width);
         }

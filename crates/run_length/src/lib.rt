@@ -13,7 +13,7 @@ ghost use Rattle.run_length.specs.Runs.{place_of, Waiting, meaning, Unrolling};
 
 mod coding;
 
-pub use coding::LevelCoding;
+pub use coding::{LevelCoding, greatest_code};
 use format::{BitPlace, LEVEL_SIZE, LIMIT, OctetPlace, Refusal};
 
 // One more than the greatest count that is accepted. A weight or a count that would be greater stops here: what is above it

@@ -6,7 +6,7 @@ use Rattle.format.specs.declared.Group.{Group}
 use Rattle.writer.specs.Pen.{Ready, Moved}
 use Rattle.writer.specs.declared.Pen.{Pen}
 use Rattle.writer.proofs.Jobs.{number-ready, number-moved}
-use Rattle.coding.specs.Codes.{IsAt}
+use Rattle.numbers.specs.Records.{IsAt}
 
 module _ (coded : Group → ℕ) (w : ℕ) (groups : List Group) where
   abbrev codes : List ℕ

@@ -27,8 +27,8 @@ use Rattle.laws.specs.Accepting.{Passing}
 use Rattle.laws.specs.Saying.{part-size}
 use Rattle.laws.specs.Codings.{payload-length, list-coded, list-passing, reference-fits, width-coded, length-coded, list_steps}
 use Rattle.writer.proofs.Lent.{lent-refused, lent_written}
-use Rattle.coding.specs.Codes.{IsAt, Recorded}
-use Rattle.coding.proofs.Recordings.{own-numbers, octets, stored, stored-sound}
+use Rattle.numbers.specs.Records.{IsAt, Recorded}
+use Rattle.numbers.proofs.Recordings.{own-numbers, octets, stored, stored-sound}
 use Rattle.section7.specs.Parts.{Codable, value_bits, payload_lent}
 use Rattle.section7.specs.declared.Coding.TheVariants as coding
 use Rattle.section7.proofs.Values.{size-string}

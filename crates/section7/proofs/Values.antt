@@ -14,7 +14,7 @@ use Rattle.writer.specs.Pen.{Ready, Moved}
 use Rattle.writer.specs.declared.Pen.{Pen}
 use Rattle.writer.proofs.Pens.{moved_then, moved_ready}
 use Rattle.writer.proofs.Jobs.{number-ready, number-moved}
-use Rattle.coding.specs.Codes.{IsAt, Recorded}
+use Rattle.numbers.specs.Records.{IsAt, Recorded}
 use native.Mathlib.Nat.{mul-le-mul}
 use Rattle.format.specs.Refusals.{limit}
 use Rattle.section7.specs.Parts.{FewBits, values_of, group_bits, value_bits, Countable}

@@ -7,7 +7,7 @@ use Rattle.format.specs.Refusals.{limit}
 use Rattle.format.specs.Grouping.{width_of}
 use Rattle.format.specs.declared.Group.{Group}
 pub use Rattle.writer.specs.Pen.{payload_lent}
-use Rattle.coding.specs.Codes.{IsAt}
+use Rattle.numbers.specs.Records.{IsAt}
 use Rattle.section7.specs.declared.Coding.{Coding}
 use Rattle.section7.specs.declared.Coding.TheVariants as coding
 

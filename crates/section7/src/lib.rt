@@ -9,12 +9,11 @@ ghost use Rattle.format.specs.Refusals.{limit, left};
 ghost use Rattle.format.specs.Packing.{value_string, template_of, payload_of};
 ghost use Rattle.laws.specs.Groups.{own_numbers, own_groups, RecordOf};
 ghost use Rattle.writer.specs.Pen.{Ready, Moved};
-ghost use Rattle.coding.specs.Codes.{Recorded};
+ghost use Rattle.numbers.specs.Records.{Recorded};
 ghost use Rattle.section7.specs.Parts.{bits_of, code_of, Codable, values_of, group_bits, value_bits, FewBits, Countable, payload_lent};
 
-use coding::Records;
 use format::{Group, Lengths, OctetPlace, Refusal, Template, Widths};
-use numbers::Numbers;
+use numbers::{Numbers, Records};
 use writer::Pen;
 
 // What a part of the payload codes of a group. A closure for each would be shorter; its proof does not close, since the check

@@ -6,7 +6,8 @@ use native.Mathlib.Nat.{add-zero, mod-lt, lt_of_lt_of_le}
 use native.Mathlib.Omega.{arith}
 use Rattle.std.proofs.Common.{add-one}
 use lib.Pow.{pow_pos, pow_mono}
-use lib.ListN.{get_or}
+use lib.ListN.{length, get_or}
+use Rattle.std.proofs.lemmas.List.{get_or_past}
 use Rattle.std.proofs.lemmas.Nat.{pow-add, shl_whole}
 use mir.Val.{Fits}
 use mir.Syntax.{w32, w64}
@@ -36,6 +37,23 @@ module _ (octets : List ℕ) (o : Octets octets) (place n k : ℕ) {number : ℕ
 
   pub turn_fits : Fits w64 (number + get_or octets (place + n - 1 - k) 0 * 2 ^ (8 * k) % 2 ^ 64)
   turn_fits = omega (arith, gathered-turn, one_number octets o (place + (n - (k + 1))) (k + 1) (omega arith))
+
+-- ---- octets past the end
+
+-- they are zeros
+gathered-past : (octets : List ℕ) (at n m : ℕ) → length octets ≤ at + n → gathered octets at (n + m) ≡ gathered octets at n * 2 ^ (8 * m)
+unfolding gathered
+gathered-past octets at n zero h = rw add-zero (omega arith)
+gathered-past octets at n (suc m) h =
+    let e : n + suc m ≡ suc (n + m) = omega arith in
+    let w : 8 * suc m ≡ 8 * m + 8 = omega arith in
+    rw (e, w, pow-add 2 (8 * m) 8) (omega (arith, gathered-past octets at n m h, get_or_past octets (at + (n + m)) 0 (omega (arith, h))))
+
+-- of five, as many are there as are gathered, and the others behind them
+pub five-past : (octets : List ℕ) → Octets octets → (at n m : ℕ) {g : ℕ} → length octets ≤ at + n → n + m ≡ 5 → g ≡ gathered octets at n → g * 2 ^ (8 * m) % 2 ^ 64 ≡ gathered octets at 5
+five-past octets o at n m h e eg =
+    let p : gathered octets at 5 ≡ gathered octets at n * 2 ^ (8 * m) = ap (gathered octets at) (sym e) ∙ gathered-past octets at n m h in
+    rw (eg, ← p) (omega (arith, one_number octets o at 5 (omega arith)))
 
 -- ---- one shift and one remainder
 

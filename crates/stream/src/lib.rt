@@ -9,7 +9,6 @@ ghost use Rattle.laws.specs.Bits.{gathered};
 ghost use Rattle.stream.specs.Cursor.{made_at, Inside, stepped};
 
 use format::{BitPlace, OctetPlace, Refusal};
-use std::array;
 
 // Document 02, No. 2: "Gather the octets that a number touches, at most five, into one 64-bit number, then shift once and take a
 // remainder." Every number that is read out of octets is read here. It has `width` bits, from bit `bit` of the first of `count`
@@ -36,17 +35,21 @@ pub fn gathered_there<const N: usize>(octets: &[u8], place: OctetPlace) -> u64
     number
 }
 
-// Five octets from a place on, those past the end as 0. Apart, so that the compiler keeps it out of loops that read.
+// Five octets from a place on, of which not all are there: those past the end are 0. Apart, so that the compiler keeps it out of
+// loops that read.
 #[cold]
 #[inline(never)]
-#[tactic(auto, unfolding(laws::specs::Bits::gathered))]
 fn five_at_end(octets: &[u8], place: OctetPlace) -> u64
-    requires { place.0 < 2 ^ 63 }
+    requires { length octets.now < place.0 + 5 }
     ensures { result ≡ gathered octets.now place.0 5 }
 {
-    let at = place.0;
-    let five: [u8; 5] = array::from_fn(|k| octets.get(at + k).copied().unwrap_or(0));
-    gathered_there::<5>(&five, OctetPlace(0))
+    match octets.len().saturating_sub(place.0) {
+        0 => 0,
+        1 => gathered_there::<1>(octets, place) << 32,
+        2 => gathered_there::<2>(octets, place) << 24,
+        3 => gathered_there::<3>(octets, place) << 16,
+        _ => gathered_there::<4>(octets, place) << 8,
+    }
 }
 
 // "the octets that a number touches, at most five": five from the first of them on, those past the end as 0. Where all are there
@@ -82,6 +85,23 @@ pub fn read_number(octets: &[u8], place: BitPlace, width: usize) -> u32
         places::bit_in_octet(place),
         width,
     )
+}
+
+// The same, of a code. Codes of 0 bits stand where the octets end if nothing is behind them, and a walk over the groups reads one
+// for each: no octet is gathered for these.
+pub fn read_code(octets: &[u8], place: BitPlace, width: usize) -> u32
+    requires { width ≤ 32 }
+    ensures { result ≡ number_at octets.now place.0 width }
+{
+    let octet = places::octet_of(place);
+    if octet.0 + 5 <= octets.len() {
+        let gathered = gathered_there::<5>(octets, octet);
+        return read_gathered(gathered, 5, places::bit_in_octet(place), width);
+    }
+    if width == 0 {
+        return 0;
+    }
+    read_number(octets, place, width)
 }
 
 // The number at a place from which eight octets are there: more are gathered than it touches, by one load of the machine, and

@@ -1,7 +1,6 @@
 -- `coding::lengths_of` meets its contract. All lengths but the last are those of the groups but the last. Assumes nothing.
 use Rattle.std.proofs.Common.{arith}
 use Rattle.numbers.proofs.Windows.{window-ordered}
-use Rattle.coding.proofs.Firsts.{window-least}
 use Rattle.coding.proofs.Codings.{one-coded, all_coded}
 use Rattle.coding.proofs.lengths_of.Goals as goal
 

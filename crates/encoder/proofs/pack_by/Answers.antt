@@ -1,6 +1,6 @@
 -- `encoder::pack_by` meets its contract. Assumes nothing.
 use Rattle.std.proofs.lemmas.Result.{err_from_is_err_and}
-use Rattle.coding.proofs.Recordings.{codable}
+use Rattle.coding.proofs.Codings.{codable}
 use Rattle.encoder.proofs.Outcome.{refused-numbers, refused-summary, refused-groups, there, sound_records, coded, refused-payload, all_packed, octets-short}
 use borrow.Author.Rules.{rules}
 use Rattle.encoder.proofs.pack_by.Goals as goal

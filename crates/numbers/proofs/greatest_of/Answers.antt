@@ -1,7 +1,6 @@
 -- `numbers::greatest_of` meets its contract. Assumes nothing.
-use mathlib.Core.Path.{refl, sym, ◌∙◌}
+use mathlib.Core.Path.{refl, sym}
 use Rattle.laws.specs.Lists.{length-listed}
-use Rattle.laws.specs.Stores.{number-listed}
 use Rattle.format.specs.Lists.{greatest}
 use borrow.Author.Rules.{rules}
 use Rattle.numbers.proofs.Windows.{greatest-turn, greatest-all}
@@ -11,10 +10,12 @@ pub loop-k-init : goal.loop-k-init
 unfolding greatest
 loop-k-init c = refl
 
+pub number_at-requires : goal.number_at-requires
+number_at-requires c = rw length-listed c.loop-k-test.true
+
 pub loop-k-preserved : goal.loop-k-preserved
 loop-k-preserved c =
-    let t = c.loop-k-test.true in
-    greatest-turn _ _ (sym (length-listed _ _)) c.loop-k.invariant t (c.whole_in.ensures ∙ number-listed _ _ t) (search rules)
+    greatest-turn _ _ (sym (length-listed _ _)) c.loop-k.invariant c.loop-k-test.true c.number_at.ensures (search rules)
 
 pub returns : goal.returns
 returns c = greatest-all _ _ (sym (length-listed _ _)) c.loop-k.invariant c.loop-k-test.false

@@ -1,13 +1,12 @@
 -- The records of groups of numbers that packing takes. Assumes nothing.
 use Rattle.std.proofs.Common.{◌≡◌, ℕ, suc, ◌<◌, List, [], ◌∷◌, length, get_or, refl, sym, ap, ap₂, ◌∙◌, arith}
 use mathlib.Core.List.{map, flat_map, append-nil}
-use Rattle.std.proofs.lemmas.List.{length-map}
 use Rattle.format.specs.Layout.{group_octets, group_size}
 use Rattle.format.specs.declared.Group.{Group}
 use Rattle.laws.specs.Lists.{length-listed, get_or-listed}
 use Rattle.laws.specs.Stores.{length-flat}
 use Rattle.laws.specs.Groups.{group_in, groups_in, own_numbers, own_groups, RecordOf, Sound, Fits, least-upto, width-upto, group-size, groups-read-back}
-use Rattle.coding.specs.Codes.{Codable, Recorded}
+use Rattle.numbers.specs.Records.{Recorded}
 
 -- a number of each record is one of its group
 pub own-numbers : (numbers : List ℕ) (number : Group → ℕ) (of : List ℕ → ℕ) → ((r : Group) → RecordOf numbers r → number r ≡ of (own_numbers numbers r)) → (groups : List Group)
@@ -16,7 +15,7 @@ own-numbers numbers number of same [] each = refl
 own-numbers numbers number of same (r ∷ rs) each =
     ap₂ (λ (n : ℕ) (ns : List ℕ). n ∷ ns) (same r (each r 0 (omega arith))) (own-numbers numbers number of same rs (λ d k l. each d (suc k) (omega arith)))
 
--- records in octets are such as can be coded
+-- records in octets are such
 pub recorded : {numbers octets : List ℕ} {count : ℕ} → Sound numbers octets count → Recorded numbers (groups_in octets count)
 recorded {numbers} {octets} {count} s =
     let long = length-listed count (group_in octets) in
@@ -29,10 +28,7 @@ recorded {numbers} {octets} {count} s =
     }
 
 module _ {numbers : List ℕ} {groups : List Group} (h : Recorded numbers groups) where
-  pub codable : Codable groups
-  codable = record { some = h.some; few = h.few; narrow = λ d k l. width-upto (h.each d k l) 32 (omega (arith, h.small)) }
-
-  -- and such as stand in octets of their own
+  -- they stand in octets of their own
   abbrev pub octets : List ℕ
   octets = flat_map group_octets groups
 

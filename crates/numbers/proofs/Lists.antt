@@ -1,5 +1,5 @@
 -- The first things of a list. Assumes nothing.
-use Rattle.std.proofs.Common.{◌≡◌, ℕ, ◌+◌, ◌-◌, ◌≤◌, List, take, ap, ◌∙◌, arith}
+use Rattle.std.proofs.Common.{◌≡◌, ℕ, ◌+◌, ◌-◌, ◌≤◌, take, ap, ◌∙◌, arith}
 use lib.Seq.{take_at}
 use Rattle.format.specs.Lists.{listed}
 use Rattle.laws.specs.Lists.{length-listed, listed-add}
