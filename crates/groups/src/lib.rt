@@ -155,9 +155,12 @@ fn decoded(template: Template, width: usize, value: u32, number: u32) -> Decoded
     requires { width ≤ 31 }
     ensures { result ≡ decoded template width value number }
 {
+    // Made before the tests, so that the compiler chooses a point by a move and not by a jump: where the missing ones lie in no order,
+    // jumps are guessed wrong.
+    let point = normal(number);
     // Asked first and alone, so that the compiler takes it out of the loop over a group's values; so with 2.
     if template.management == 0 {
-        return normal(number);
+        return point;
     }
     let greatest = places::power(width) - 1;
     let read = value as u64;
@@ -165,12 +168,12 @@ fn decoded(template: Template, width: usize, value: u32, number: u32) -> Decoded
         return DecodedValue::Missing1;
     }
     if template.management != 2 {
-        return normal(number);
+        return point;
     }
     if read + 1 == greatest {
         return DecodedValue::Missing2;
     }
-    normal(number)
+    point
 }
 
 // A value's point. "In a group of width 0 the same tests apply to the reference at the number width, and the number is the

@@ -31,7 +31,10 @@ fn longer(number: u32, character: u8) -> u32 {
 pub fn numbers_in(row: &[u8]) -> [u32; 16] {
     let mut numbers = [0u32; 16];
     let mut k = 0usize;
-    for character in row.iter().take_while(|character| **character != b'|') {
+    for character in row {
+        if *character == b'|' {
+            break;
+        }
         if *character == b' ' {
             k = (k + 1).min(15);
         }
@@ -60,6 +63,7 @@ pub struct Reading {
     part: Part,
     word: usize,
     at: usize,
+    ghost word_before: { word ≤ at },
 }
 
 impl Reading {
@@ -72,7 +76,7 @@ impl Reading {
 
     // A word that begins at an octet.
     fn of_word(at: usize) -> Reading
-        ensures { (result.word ≡ at) × (result.at ≡ at) }
+        ensures { result.at ≡ at }
     {
         Reading {
             part: Part::FirstHalf,
@@ -81,9 +85,20 @@ impl Reading {
         }
     }
 
+    // At the same octets, what the next character can be part of.
+    fn then(self, part: Part) -> Reading
+        ensures { result.at ≡ self.at }
+    {
+        Reading {
+            part,
+            word: self.word,
+            at: self.at,
+        }
+    }
+
     // The word, again and again as far as an end. Answers where it ends then.
     fn repeat_word(self, octets: &mut [u8], end: usize) -> usize
-        requires { (self.word ≤ self.at) × (self.at ≤ length octets.old) }
+        requires { self.at ≤ length octets.old }
         ensures { result ≤ length octets.new }
     {
         let width = self.at - self.word;
@@ -96,18 +111,15 @@ impl Reading {
 
     // Half an octet more; where there is no room, nothing.
     fn put_half(self, octets: &mut [u8], digit: u8) -> Reading
-        requires { (self.word ≤ self.at) × (self.at ≤ length octets.old) }
-        ensures { (result.word ≤ result.at) × (result.at ≤ length octets.new) }
+        requires { self.at ≤ length octets.old }
+        ensures { result.at ≤ length octets.new }
     {
         let Some(octet) = octets.get_mut(self.at) else {
             return self;
         };
         if let Part::FirstHalf = self.part {
             *octet = digit;
-            return Reading {
-                part: Part::SecondHalf,
-                ..self
-            };
+            return self.then(Part::SecondHalf);
         }
         *octet = joined(*octet, digit);
         Reading {
@@ -119,22 +131,16 @@ impl Reading {
 
     // Reads one character more. As half an octet, what is no digit stands for 16: each row has octets, whatever is written there.
     fn read(self, octets: &mut [u8], character: u8) -> Reading
-        requires { (self.word ≤ self.at) × (self.at ≤ length octets.old) }
-        ensures { (result.word ≤ result.at) × (result.at ≤ length octets.new) }
+        requires { self.at ≤ length octets.old }
+        ensures { result.at ≤ length octets.new }
     {
         match (character, self.part) {
             (b'|', _) => Reading::of_word(0),
             (_, Part::Nothing) => self,
             (b' ', Part::Count(end)) => Reading::of_word(self.repeat_word(octets, end as usize)),
             (b' ', _) => Reading::of_word(self.at),
-            (b'*', _) => Reading {
-                part: Part::Count(0),
-                ..self
-            },
-            (_, Part::Count(end)) => Reading {
-                part: Part::Count(longer(end, character)),
-                ..self
-            },
+            (b'*', _) => self.then(Part::Count(0)),
+            (_, Part::Count(end)) => self.then(Part::Count(longer(end, character))),
             (_, Part::FirstHalf | Part::SecondHalf) => {
                 self.put_half(octets, digit(character).unwrap_or(16))
             }

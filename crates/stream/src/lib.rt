@@ -88,7 +88,7 @@ pub fn read_number(octets: &[u8], place: BitPlace, width: usize) -> u32
 }
 
 // The same, of a code. Codes of 0 bits stand where the octets end if nothing is behind them, and a walk over the groups reads one
-// for each: no octet is gathered for these.
+// for each: of these, which touch none, no octet is gathered there.
 pub fn read_code(octets: &[u8], place: BitPlace, width: usize) -> u32
     requires { width ≤ 32 }
     ensures { result ≡ number_at octets.now place.0 width }
@@ -99,7 +99,7 @@ pub fn read_code(octets: &[u8], place: BitPlace, width: usize) -> u32
         return read_gathered(gathered, 5, places::bit_in_octet(place), width);
     }
     if width == 0 {
-        return 0;
+        return read_gathered(0, 0, 0, 0);
     }
     read_number(octets, place, width)
 }

@@ -1,5 +1,4 @@
 -- `stream::read_code` meets its contract. Assumes nothing.
-use mathlib.Core.Path.{refl}
 use native.Mathlib.Omega.{arith}
 use Rattle.format.specs.Bits.{number_of}
 use Rattle.stream.proofs.Numbers.{number-gathered, number-placed}
@@ -12,4 +11,4 @@ returns-then-octet-octets c =
 
 pub returns-then-width-eq0 : goal.returns-then-width-eq0
 unfolding number_of
-returns-then-width-eq0 c = rw c.if-width-eq0.true refl
+returns-then-width-eq0 c = rw c.if-width-eq0.true c.read_gathered-then-width-eq0.ensures
